@@ -8,7 +8,6 @@ use Rattle.orca_names.specs.declared.names.ObjName.{ObjName}
 use Rattle.orca_names.specs.declared.names.Thing.{Thing}
 use Rattle.orca_names.specs.declared.names.Thing.TheVariants.{Obj}
 use Rattle.orca_names.specs.declared.names.Value.{Value}
-use Rattle.orca_names.specs.declared.trace.Trace.{Trace}
 use Rattle.orca_names.specs.declared.trace.Trace.TheVariants.{Deep, Roots}
 use Rattle.reach_walk.specs.Marks.{load_of, marks_of}
 use Rattle.letter_kinds.specs.Holdings.{Holdings, Row, entry_row, known_objects, object_name, row_of, with_made}
@@ -23,7 +22,7 @@ use Rattle.machine_rules.specs.Cell.{listed_objects, row_by, row_by_roots}
 use Rattle.machine_rules.specs.Collect.{is_in_use, start_of_marks}
 use Rattle.machine_rules.specs.Go.{rows_from}
 use Rattle.actor_cell.specs.declared.cell.Cell.{Cell}
-use Rattle.actor_cell.specs.Cells.{as_cell, table_by}
+use Rattle.actor_cell.specs.Cells.{as_cell}
 use Rattle.actor_cell.specs.Goes.{having_made}
 use Rattle.actor_cell.proofs.Marked.{marks_same}
 
@@ -53,9 +52,11 @@ module _ (me : ℕ) (c : rules.Cell) (h : Holdings) (own : h.rows ≡ c.holdings
 
 module _ (c : Cell) where
   -- what is found in the tables is what the actor has
-  pub found_is : (trace : Trace) (n : ObjName) → row_known c.heap (table_by trace c) n ≡ row_by trace c.heap.owner (as_cell c) n
-  found_is Deep n = row_known-row_of c.count c.heap c.foreign n
-  found_is Roots n =
+  pub found_deep : (n : ObjName) → row_known c.heap c.foreign n ≡ row_by Deep c.heap.owner (as_cell c) n
+  found_deep n = row_known-row_of c.count c.heap c.foreign n
+
+  pub found_roots : (n : ObjName) → row_known c.heap (as_held c.known) n ≡ row_by Roots c.heap.owner (as_cell c) n
+  found_roots n =
       row_known-row_of 0 c.heap (as_held c.known) n
       ∙ ap (λ rows. rows n) (rows_brought c.heap.owner (as_cell c) (holdings_of 0 c.heap (as_held c.known)) refl refl)
 

@@ -22,6 +22,10 @@ use turn_rules::{BoxedFrame, SpareFrame};
 #[derive(Drop)]
 pub struct Cell {
     pub kind: u32,
+    /// It did something since it collected.
+    pub dirty: bool,
+    /// It told the detector that it is blocked.
+    pub reported: bool,
     pub fields: Fields,
     pub frame: BoxedFrame,
     /// Memory for the frame that the next letter starts.
@@ -34,10 +38,6 @@ pub struct Cell {
     pub known: RowTable,
     /// How often the actor itself is held by others and loaded by letters, as far as it was told.
     pub count: OwnCount,
-    /// It did something since it collected.
-    pub dirty: bool,
-    /// It told the detector that it is blocked.
-    pub reported: bool,
 }
 
 impl Cell {
@@ -60,6 +60,8 @@ impl Cell {
         own.raise(count);
         Cell {
             kind,
+            dirty: false,
+            reported: false,
             fields: Fields {
                 values: Args::nulls(code.program().field_count(kind) as usize),
                 pinned: false,
@@ -70,8 +72,6 @@ impl Cell {
             foreign: ForeignTable::new(alloc),
             known: RowTable::new(alloc),
             count: own,
-            dirty: false,
-            reported: false,
         }
     }
 

@@ -11,7 +11,7 @@ use crate::sweeping::Sweep;
 use local_sweep::{apply, plan};
 use orca_names::{NoMemory, Trace};
 use plain_list::Listed;
-use root_trace::{plan_in_use, plan_roots};
+use root_trace::{plan_roots, unused_rows};
 use std::alloc::Global;
 
 impl Cell {
@@ -33,11 +33,8 @@ impl Cell {
         ensures { IfOk result (λ found. found ≡ sweep_of roots self.now) }
     {
         let plan = plan_roots(alloc, &self.fields, &self.heap, &self.foreign)?;
-        let known = plan_in_use(alloc, &self.fields, &self.heap, self.known.held())?;
-        Ok(Sweep {
-            plan,
-            unused: known.back,
-        })
+        let unused = unused_rows(alloc, &self.fields, &self.heap, &self.known)?;
+        Ok(Sweep { plan, unused })
     }
 
     /// What its collection does.

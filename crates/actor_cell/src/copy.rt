@@ -36,6 +36,8 @@ impl Cell {
         let known = self.known.copy(alloc)?;
         Ok(Cell {
             kind: self.kind,
+            dirty: self.dirty,
+            reported: self.reported,
             fields: self.fields,
             frame,
             room: SpareFrame::new(alloc),
@@ -43,8 +45,6 @@ impl Cell {
             foreign,
             known,
             count: self.count,
-            dirty: self.dirty,
-            reported: self.reported,
         })
     }
 

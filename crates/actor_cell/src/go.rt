@@ -2,11 +2,11 @@
 
 ghost use Rattle.std.specs.Prelude.{◌≡◌, ◌+◌, ◌<◌, ◌≤◌, ◌^◌, false, IfOk, IfSome, IsSome, IsTrue, OnOk, length, map};
 ghost use Rattle.orca_names.specs.Names.{owner_of};
-ghost use Rattle.orca_names.specs.declared.trace.Trace.TheVariants.{Deep as deep};
+ghost use Rattle.orca_names.specs.declared.trace.Trace.TheVariants.{Deep as deep, Roots as roots};
 ghost use Rattle.machine_rules.specs.Go.{needed, to_need, turn_of_cell};
 ghost use Rattle.turn_step.specs.Turns.{HaltsAt, act_of};
 ghost use Rattle.actor_cell.specs.Awaiting.{Awaits};
-ghost use Rattle.actor_cell.specs.Cells.{as_cell, table_by};
+ghost use Rattle.actor_cell.specs.Cells.{as_cell};
 ghost use Rattle.actor_cell.specs.Finding.{Finds, FindsLetter, FindsTurn};
 ghost use Rattle.actor_cell.specs.Goes.{things_from, FitsRegister};
 ghost use Rattle.actor_cell.specs.Moves.{act_in, Mint as mint};
@@ -236,21 +236,74 @@ impl Cell {
         Ok(())
     }
 
-    // The table in which it finds the rows of others' objects.
+    // Runs its frame up to where its turn halts, by deep tracing: it finds the rows of others' objects with
+    // what it holds.
     #[inline(always)]
-    fn table(&self, trace: Trace) -> &ForeignTable
-        ensures { result.now ≡ table_by trace self.now }
+    fn run_deep<'p>(
+        &self,
+        code: &'p Checked,
+        frame: &Frame,
+        turn: &mut Turn,
+    ) -> Result<Halt<'p>, NoMemory>
+        requires { self.now.heap.next + 1024 < 2 ^ 64 }
+        ensures halt { let c = as_cell self.now in
+            let first = needed deep code.now self.now.heap.owner c frame.now in
+            let stop = turn_of_cell deep code.now self.now.heap.owner c frame.now in
+            IfOk result (λ halt. HaltsAt first stop halt turn.new) }
+        ensures few { OnOk result (length turn.new.made ≤ 1024) }
     {
-        match trace {
-            Trace::Deep => &self.foreign,
-            Trace::Roots => self.known.held(),
+        let me = self.heap.owner();
+        let base = self.heap.made();
+        let setting = Setting { code, me, base };
+        let rows = KnownRows {
+            heap: &self.heap,
+            foreign: &self.foreign,
+        };
+        let mut rows = Reading { rows: &rows };
+        match segment_at(&setting, frame, &self.fields, &mut rows, turn) {
+            Ok(stop) => Ok(Halt::Stops(stop)),
+            Err(e) => Err(e),
         }
+    }
+
+    // Runs its frame by root-only tracing: letters brought the rows of others' objects.
+    #[inline(never)]
+    fn run_roots<'p>(
+        &self,
+        alloc: Global,
+        code: &'p Checked,
+        frame: &Frame,
+        turn: &mut Turn,
+    ) -> Result<Halt<'p>, NoMemory>
+        requires { self.now.heap.next + 1024 < 2 ^ 64 }
+        ensures halt { let c = as_cell self.now in
+            let first = needed roots code.now self.now.heap.owner c frame.now in
+            let stop = turn_of_cell roots code.now self.now.heap.owner c frame.now in
+            IfOk result (λ halt. HaltsAt first stop halt turn.new) }
+        ensures few { OnOk result (length turn.new.made ≤ 1024) }
+    {
+        let me = self.heap.owner();
+        let base = self.heap.made();
+        let setting = Setting { code, me, base };
+        let nothing = ForeignTable::new(alloc);
+        let foreign = self.known.held_or(&nothing);
+        let rows = KnownRows {
+            heap: &self.heap,
+            foreign,
+        };
+        let mut rows = Reading { rows: &rows };
+        let held = Holding {
+            me,
+            foreign: &self.foreign,
+        };
+        segment_held_at(&setting, frame, &self.fields, &mut rows, &held, turn)
     }
 
     // Runs its frame up to where its turn halts.
     #[inline(always)]
     fn run_turn<'p>(
         &self,
+        alloc: Global,
         code: &'p Checked,
         trace: Trace,
         frame: &Frame,
@@ -263,27 +316,9 @@ impl Cell {
             IfOk result (λ halt. HaltsAt first stop halt turn.new) }
         ensures few { OnOk result (length turn.new.made ≤ 1024) }
     {
-        let me = self.heap.owner();
-        let base = self.heap.made();
-        let setting = Setting { code, me, base };
-        let foreign = self.table(trace);
-        let rows = KnownRows {
-            heap: &self.heap,
-            foreign,
-        };
-        let mut rows = Reading { rows: &rows };
         match trace {
-            Trace::Deep => match segment_at(&setting, frame, &self.fields, &mut rows, turn) {
-                Ok(stop) => Ok(Halt::Stops(stop)),
-                Err(e) => Err(e),
-            },
-            Trace::Roots => {
-                let held = Holding {
-                    me,
-                    foreign: &self.foreign,
-                };
-                segment_held_at(&setting, frame, &self.fields, &mut rows, &held, turn)
-            }
+            Trace::Deep => self.run_deep(code, frame, turn),
+            Trace::Roots => self.run_roots(alloc, code, frame, turn),
         }
     }
 
@@ -317,7 +352,7 @@ impl Cell {
             found.doing = Doing::Rest;
             return Ok(());
         }
-        match self.run_turn(code, options.trace, frame, turn) {
+        match self.run_turn(alloc, code, options.trace, frame, turn) {
             Ok(halt) => match halt {
                 Halt::Stops(stop) => {
                     self.move_of(alloc, options, turn, &stop.deed, found)?;

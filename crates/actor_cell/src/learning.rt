@@ -1,8 +1,10 @@
 // Rows that letters bring uncounted.
 
 ghost use Rattle.std.specs.Prelude.{◌≡◌, ◌+◌, ◌<◌, ◌≤◌, [], ◌∷◌, length};
-ghost use Rattle.row_store.specs.Told.{as_load, as_loaded};
+ghost use Rattle.foreign_table.specs.Table.{row_length};
+ghost use Rattle.row_store.specs.Told.{as_load, as_loaded, told_row};
 ghost use Rattle.machine_rules.specs.Take.{learn};
+ghost use Rattle.trace_send.specs.Room.{values_of};
 
 use letter_kinds::Load;
 use orca_names::{ActorName, Thing};
@@ -11,9 +13,12 @@ use row_table::RowTable;
 
 // The row of another's object is known.
 fn learn_one(known: &mut RowTable, me: ActorName, brought: &(Thing, Told))
-    requires { 0 < known.old.spare }
+    requires room { 0 < known.old.spare }
+    requires values { row_length (told_row brought.now.1) ≤ known.old.spare_values }
     ensures rows { known.new.rows ≡ learn me (as_loaded brought.now ∷ []) known.old.rows }
     ensures room { known.old.spare ≤ known.new.spare + 1 }
+    ensures values { let its = row_length (told_row brought.now.1) in
+        known.old.spare_values ≤ known.new.spare_values + its }
 {
     if brought.0.owner() != me {
         known.learn(brought.0, &brought.1);
@@ -22,7 +27,8 @@ fn learn_one(known: &mut RowTable, me: ActorName, brought: &(Thing, Told))
 
 /// The rows of others' objects are known. It takes no memory.
 pub(crate) fn learn_all(known: &mut RowTable, me: ActorName, rows: &Load)
-    requires { length rows.now ≤ known.old.spare }
+    requires room { length rows.now ≤ known.old.spare }
+    requires values { values_of (as_load rows.now) ≤ known.old.spare_values }
     ensures { known.new.rows ≡ learn me (as_load rows.now) known.old.rows }
 {
     for brought in rows.as_slice() {

@@ -16,6 +16,7 @@ mod learning;
 mod leave;
 mod letters;
 mod loads;
+mod room;
 mod sweeping;
 mod take;
 mod turning;

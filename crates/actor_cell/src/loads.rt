@@ -133,11 +133,12 @@ impl Cell {
     // The rows that these arguments reach, its own and those that letters brought, where the turn
     // made these.
     #[inline(never)]
-    fn brought(&self, alloc: Global, made: &[Row], args: &Args) -> Result<Load, NoMemory>
+    fn brought<'a>(&'a self, alloc: Global, made: &'a [Row], args: &Args) -> Result<Load, NoMemory>
         ensures { let c = having_made made.now (as_cell self.now) in
             IfOk result (λ rows. as_load rows ≡ rows_from roots self.now.heap.owner c args.now) }
     {
-        let rows = self.rows_with(self.known.held(), made);
+        let nothing = ForeignTable::new(alloc);
+        let rows = self.rows_with(self.known.held_or(&nothing), made);
         rows_of(alloc, args, &mut Reading { rows: &rows })
     }
 

@@ -8,6 +8,7 @@ ghost use Rattle.actor_cell.specs.Takes.{CanTake, HasRoomFor};
 
 use crate::cell::Cell;
 use crate::learning::learn_all;
+use crate::room::{reserve_load, reserve_rows};
 use behaviour_check::Checked;
 use block_report::{Tells, tells_on};
 use letter_kinds::{Letter, Note};
@@ -58,8 +59,8 @@ impl Cell {
                 rows,
             } => {
                 self.room.reserve_from(spare)?;
-                self.foreign.reserve(load.len())?;
-                self.known.reserve(rows.len())
+                reserve_load(&mut self.foreign, load)?;
+                reserve_rows(&mut self.known, rows)
             }
             _ => Ok(()),
         }

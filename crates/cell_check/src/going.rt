@@ -13,6 +13,7 @@ ghost use Rattle.turn_rules.specs.Segment as segments;
 use actor_cell::{Cell, Out, Turned};
 use behaviour_check::{Checked, check};
 use behaviour_text::parse;
+use foreign_table::ForeignTable;
 use known_rows::KnownPlaces;
 use letter_kinds::{Amounts, Letter, Load};
 use orca_names::{Options, Thing, Trace};
@@ -142,7 +143,8 @@ pub(crate) fn collects(alloc: Global, cell: &mut Cell) -> Result<Out, Fail> {
     if !KnownPlaces::of(&cell.heap, &cell.foreign).holds_others_only() {
         return Err(Fail::from("it holds things of its own"));
     }
-    if !KnownPlaces::of(&cell.heap, cell.known.held()).holds_others_only() {
+    let empty = ForeignTable::new(alloc);
+    if !KnownPlaces::of(&cell.heap, cell.known.held_or(&empty)).holds_others_only() {
         return Err(Fail::from("it knows things of its own"));
     }
     Ok(cell.collect(alloc, Trace::Deep)?)

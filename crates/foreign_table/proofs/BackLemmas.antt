@@ -1,8 +1,8 @@
 -- The group of an owner among what goes back.
-use Rattle.std.proofs.Common.{◌≡◌, ℕ, zero, suc, ◌<◌, Bool, true, false, not, ◌&&◌, ◌==◌, ◌+◌, ◌-◌, List, [], ◌∷◌, length, get_or, refl, sym, ap, ◌∙◌, arith}
-use Rattle.std.specs.Prelude.{T, is_some}
+use Rattle.std.proofs.Common.{◌≡◌, ℕ, zero, suc, ◌<◌, ◌≤◌, Bool, cond, true, false, not, ◌&&◌, ◌==◌, ◌+◌, ◌-◌, List, [], ◌∷◌, length, get_or, map, Option, refl, sym, ap, ◌∙◌, arith}
+use Rattle.std.specs.Prelude.{T, filter, is_some}
 use Rattle.std.specs.Option.{option_map_or}
-use Rattle.std.specs.List.{list_all}
+use Rattle.std.specs.List.{list_all, sum_by}
 use Rattle.std.specs.Ordering.{nat_cmp}
 use Rattle.std.specs.Cmp.{nat_cmp_total}
 use Rattle.std.proofs.lemmas.Bool.Decides.{nat_tests}
@@ -12,10 +12,18 @@ use Rattle.orca_names.specs.Names.{owner_of, thing_cmp}
 use Rattle.plain_list.specs.Rising.{IsAt, IsGap}
 use Rattle.orca_names.specs.declared.names.Thing.{Thing}
 use Rattle.plain_list.proofs.Rising.{find_at, find_gap}
+use Rattle.std.proofs.lemmas.List.{length-map}
+use Rattle.std.proofs.lemmas.List.Sums.{count_by-le-length, length-filter, sum_by-cons}
+use Rattle.orca_names.specs.declared.names.Value.{Value}
 use Rattle.letter_kinds.specs.Counting.{Amount}
+use Rattle.letter_kinds.specs.Holdings.{Row}
+use Rattle.foreign_table.specs.declared.search.Entry.{Entry}
+use Rattle.foreign_table.specs.Entry.{FollowFrom, pair_of}
+use Rattle.foreign_table.proofs.Entries.{all_entries, row_in_length}
+use Rattle.foreign_table.proofs.Rows.{all_of}
 use Rattle.orca_names.proofs.ThingOrder.{thing_exact, thing_total}
 use Rattle.foreign_table.specs.Back.{given_up, goes_back}
-use Rattle.foreign_table.specs.Table.{Table}
+use Rattle.foreign_table.specs.Table.{Table, DoRise, count_values, entries_in, row_length}
 
 first : (a b : Bool) → T (a && b) → T a
 first true b p = tt
@@ -53,4 +61,42 @@ nothing_up back t none =
     let kept = m.retain_keys t.entries (λ x. not (goes_back [] x)) in
     let stay : kept ≡ t.entries = all_stay t.entries in
     let spare : t.spare ≡ t.spare + (m.len t.entries - m.len kept) = omega (arith, ap m.len stay) in
-    (λ i. record { spare = spare i; entries = sym stay i }) ∙ ap (λ b. given_up b t) (sym (no_groups back none))
+    let values : t.spare_values ≡ t.spare_values + (count_values t.entries - count_values kept) = omega (arith, ap count_values stay) in
+    (λ i. record { spare = spare i; spare_values = values i; entries = sym stay i }) ∙ ap (λ b. given_up b t) (sym (no_groups back none))
+
+-- ---- how many values rows have
+
+-- fewer terms have no larger sum
+sum_left : {X : Type 0} (f : X → ℕ) (p : X → Bool) (xs : List X) → sum_by f (filter p xs) ≤ sum_by f xs
+sum_left f p [] = omega arith
+sum_left f p (x ∷ xs) =
+    let rest = sum_left f p xs in
+    let whole = sum_by-cons f x xs in
+    elim (p x) as (λ b. sum_by f (cond b (x ∷ filter p xs) (filter p xs)) ≤ sum_by f (x ∷ xs)) [
+      | true ↦ omega (arith, rest, whole, sum_by-cons f x (filter p xs))
+      | false ↦ omega (arith, rest, whole)
+    ]
+
+abbrev pair_length : Thing × (ℕ × Option Row) → ℕ
+pair_length e = row_length e.1.1
+
+pairs_length : (vs : List Value) (at end : ℕ) (es : List Entry) → FollowFrom at es end → end ≤ length vs → at + sum_by pair_length (map (pair_of vs) es) ≡ end
+pairs_length vs at end [] f l = omega (arith, f)
+pairs_length vs at end (e ∷ es) f l =
+    let within : e.first + e.len ≤ length vs = omega (arith, all_of (at + e.len) end es f.2, f.0, l) in
+    omega (arith, pairs_length vs (at + e.len) end es f.2 l, sum_by-cons pair_length (pair_of vs e) (map (pair_of vs) es), row_in_length vs e within)
+
+-- the values of all rows are those that are there
+pub all_counted : (vs : List Value) (es : List Entry) → DoRise es → FollowFrom 0 es (length vs) → count_values (entries_in vs es) ≡ length vs
+all_counted vs es h f =
+    let sum = pairs_length vs 0 (length vs) es f (omega arith) in
+    ap (sum_by pair_length) (all_entries vs es h) ∙ omega (arith, sum)
+
+-- where only some entries stay, there are no more of them, nor of values
+pub no_more : (vs ws : List Value) (es fs : List Entry) (p : Thing × (ℕ × Option Row) → Bool) → FollowFrom 0 es (length vs) → FollowFrom 0 fs (length ws)
+    → map (pair_of ws) fs ≡ filter p (map (pair_of vs) es) → (length fs ≤ length es) × (length ws ≤ length vs)
+no_more vs ws es fs p f g pairs =
+    let ps = map (pair_of vs) es in (
+      omega (arith, ap length pairs, length-map fs (pair_of ws), length-map es (pair_of vs), length-filter p ps, count_by-le-length p ps),
+      omega (arith, ap (sum_by pair_length) pairs, pairs_length vs 0 (length vs) es f (omega arith), pairs_length ws 0 (length ws) fs g (omega arith), sum_left pair_length p ps),
+    )

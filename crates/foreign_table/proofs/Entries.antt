@@ -1,122 +1,209 @@
 -- The entries of a table, read and written.
-use Rattle.std.proofs.Common.{◌≡◌, ℕ, ◌-◌, ◌<◌, Bool, true, cond, List, [], ◌∷◌, length, get_or, map, set, slice_get, Option, Some, None, refl, sym, ap, subst, ◌∙◌, arith}
-use Rattle.std.specs.Prelude.{is_some, option_map}
-use Rattle.std.specs.List.{insert, remove, filter}
+use Rattle.std.proofs.Common.{◌≡◌, ℕ, ◌+◌, ◌-◌, ◌<◌, ◌≤◌, Bool, true, cond, List, [], ◌∷◌, length, get_or, map, set, take, drop, slice_get, Option, Some, None, refl, sym, ap, subst, ◌∙◌, arith}
+use Rattle.std.specs.Prelude.{T, filter, is_some, option_map}
+use Rattle.std.specs.List.{insert, remove}
 use Rattle.std.specs.FinMap as m
-use Rattle.std.proofs.lemmas.List.{length-map, get_or_default}
+use Rattle.std.specs.FinMap.Entries.{is_sorted}
+use Rattle.std.specs.declared.cmp.Ordering.TheVariants.{Less, Greater}
+use Rattle.std.proofs.lemmas.List.{length-map, length-drop, length-take-le, map-id, get_or_default}
 use Rattle.std.proofs.lemmas.Option.{slice_get-map}
 use Rattle.letter_kinds.specs.Holdings.{Row, entry_count, entry_row}
 use Rattle.orca_names.specs.Names.{thing_cmp}
 use Rattle.orca_names.specs.declared.names.Thing.{Thing}
+use Rattle.orca_names.specs.declared.names.Value.{Value}
 use Rattle.plain_list.specs.Rising.{IsAt, IsGap}
-use Rattle.plain_list.proofs.Rising.{key_at_place, get_gap, item_len, item_entry, item_get, item_key, item_set, item_insert, item_remove, item_filter}
+use Rattle.plain_list.proofs.Rising.{at_place, item_at, item_entry, item_filter, item_get, item_key, item_len, item_set, get_gap, key_at_place, map_at, map_gap, map_remove, mapped_at, same_rise, sorted_at, sorted_gap, sorted_remove}
 use Rattle.orca_names.proofs.ThingOrder.{thing_total, thing_exact}
 use Rattle.foreign_table.specs.declared.search.Entry.{Entry}
-use Rattle.foreign_table.specs.Entry.{pair_of}
-use Rattle.foreign_table.specs.Table.{Table, DoRise, entries_in, count_on, entered}
+use Rattle.foreign_table.specs.Entry.{amount_of, as_row, pair_of, row_in}
+use Rattle.foreign_table.specs.Table.{Table, DoRise, counted, on_actor, on_actors, entries_in, count_on, entered, row_length}
 
-things_of : (es : List Entry) → map (λ (e : Thing × (ℕ × Option Row)). e.0) (map pair_of es) ≡ map (λ (e : Entry). e.thing) es
-things_of [] = refl
-things_of (e ∷ es) = ap (λ xs. e.thing ∷ xs) (things_of es)
+things_of : (vs : List Value) (es : List Entry) → map (λ (e : Thing × (ℕ × Option Row)). e.0) (map (pair_of vs) es) ≡ map (λ (e : Entry). e.thing) es
+things_of vs [] = refl
+things_of vs (e ∷ es) = ap (λ xs. e.thing ∷ xs) (things_of vs es)
 
-pub place_within : (es : List Entry) (x : Thing) (i : ℕ) → IsAt thing_cmp (map pair_of es) x i → i < length es
-place_within es x i p = omega (arith, p.in_range, length-map es pair_of)
+amount_things : (es : List Entry) → map (λ (e : Thing × ℕ). e.0) (map amount_of es) ≡ map (λ (e : Entry). e.thing) es
+amount_things [] = refl
+amount_things (e ∷ es) = ap (λ xs. e.thing ∷ xs) (amount_things es)
 
-module _ (es : List Entry) (h : DoRise es) where
-  pub value_at : (x : Thing) (i : ℕ) (e : Entry) → IsAt thing_cmp (map pair_of es) x i → e ≡ get_or es i e → m.get (entries_in es) x ≡ Some (e.count, e.row)
-  value_at x i e p is = item_get thing_total thing_exact pair_of es h x i e p is
+pub place_within : (es : List Entry) (x : Thing) (i : ℕ) → IsAt thing_cmp (map amount_of es) x i → i < length es
+place_within es x i p = omega (arith, p.in_range, length-map es amount_of)
 
-  pub is_there : (x : Thing) (i : ℕ) → IsAt thing_cmp (map pair_of es) x i → is_some (m.get (entries_in es) x) ≡ true
+-- rows do not matter to where a thing stands
+pub pairs_rise : (vs : List Value) (es : List Entry) → DoRise es → T (is_sorted thing_cmp (map (pair_of vs) es))
+pairs_rise vs es h = same_rise thing_cmp (map amount_of es) (map (pair_of vs) es) (amount_things es ∙ sym (things_of vs es)) h
+
+pub amounts_rise : (vs : List Value) (es : List Entry) → T (is_sorted thing_cmp (map (pair_of vs) es)) → DoRise es
+amounts_rise vs es h = same_rise thing_cmp (map (pair_of vs) es) (map amount_of es) (things_of vs es ∙ sym (amount_things es)) h
+
+module _ (vs : List Value) (es : List Entry) (h : DoRise es) (x : Thing) (i : ℕ) where
+  pub at_pairs : IsAt thing_cmp (map amount_of es) x i → IsAt thing_cmp (map (pair_of vs) es) x i
+  at_pairs p =
+      let l = place_within es x i p in
+      at_place thing_total (map (pair_of vs) es) (pairs_rise vs es h) x i (omega (arith, l, length-map es (pair_of vs)))
+      (λ d. mapped_at thing_total thing_exact (pair_of vs) (λ y. y.0 ≡ x) es i d l (λ e. item_at thing_total thing_exact amount_of (λ y. y.0 ≡ x) es i e l p.has_key))
+
+  pub gap_pairs : IsGap thing_cmp (map amount_of es) x i → IsGap thing_cmp (map (pair_of vs) es) x i
+  gap_pairs p =
+      let amounts = length-map es amount_of in
+      let pairs = length-map es (pair_of vs) in
+      record {
+        in_range = omega (arith, p.in_range, amounts, pairs);
+        before = λ j d l.
+            let n : j < length es = omega (arith, l, p.in_range, amounts) in
+            mapped_at thing_total thing_exact (pair_of vs) (λ y. thing_cmp x y.0 ≡ Greater) es j d n (λ e. item_at thing_total thing_exact amount_of (λ y. thing_cmp x y.0 ≡ Greater) es j e n (λ b. p.before j b l));
+        after = λ j d l k.
+            let n : j < length es = omega (arith, k, pairs) in
+            mapped_at thing_total thing_exact (pair_of vs) (λ y. thing_cmp x y.0 ≡ Less) es j d n
+            (λ e. item_at thing_total thing_exact amount_of (λ y. thing_cmp x y.0 ≡ Less) es j e n (λ b. p.after j b l (omega (arith, n, amounts))));
+      }
+
+module _ (vs : List Value) (es : List Entry) (h : DoRise es) where
+  pub value_at : (x : Thing) (i : ℕ) (e : Entry) → IsAt thing_cmp (map amount_of es) x i → e ≡ get_or es i e → m.get (entries_in vs es) x ≡ Some (e.count, row_in vs e)
+  value_at x i e p is = item_get thing_total thing_exact (pair_of vs) es (pairs_rise vs es h) x i e (at_pairs vs es h x i p) is
+
+  pub key_of : (x : Thing) (i : ℕ) (e : Entry) → IsAt thing_cmp (map amount_of es) x i → e ≡ get_or es i e → e.thing ≡ x
+  key_of x i e p is = item_key thing_total thing_exact (pair_of vs) es x i e (at_pairs vs es h x i p) is
+
+  pub is_there : (x : Thing) (i : ℕ) → IsAt thing_cmp (map amount_of es) x i → is_some (m.get (entries_in vs es) x) ≡ true
   is_there x i p =
-      let e : Entry = record { thing = x; count = 0; row = None } in
+      let e : Entry = record { thing = x; count = 0; first = 0; len = 0 } in
       ap is_some (value_at x i (get_or es i e) p (get_or_default es i e (get_or es i e) (place_within es x i p)))
 
-  pub none_at : (x : Thing) (i : ℕ) → IsGap thing_cmp (map pair_of es) x i → m.get (entries_in es) x ≡ None
-  none_at x i p = get_gap thing_total thing_exact (map pair_of es) h x i p
+  pub none_at : (x : Thing) (i : ℕ) → IsGap thing_cmp (map amount_of es) x i → m.get (entries_in vs es) x ≡ None
+  none_at x i p = get_gap thing_total thing_exact (map (pair_of vs) es) (pairs_rise vs es h) x i (gap_pairs vs es h x i p)
 
-  pub key_here : (x : Thing) (i : ℕ) → IsAt thing_cmp (map pair_of es) x i → slice_get (m.keys (entries_in es)) i ≡ Some x
-  key_here x i p = key_at_place (map pair_of es) h x i p
+  pub key_here : (x : Thing) (i : ℕ) → IsAt thing_cmp (map amount_of es) x i → slice_get (m.keys (entries_in vs es)) i ≡ Some x
+  key_here x i p = key_at_place (map (pair_of vs) es) (pairs_rise vs es h) x i (at_pairs vs es h x i p)
 
-  pub len_here : m.len (entries_in es) ≡ length es
-  len_here = item_len thing_total thing_exact pair_of es h
+  pub len_here : m.len (entries_in vs es) ≡ length es
+  len_here = item_len thing_total thing_exact (pair_of vs) es (pairs_rise vs es h)
 
-  pub entry_here : (i : ℕ) (e : Entry) → i < length es → e ≡ get_or es i e → slice_get (m.entries (entries_in es)) i ≡ Some (pair_of e)
-  entry_here i e l is = item_entry thing_total thing_exact pair_of es h i e l is
+  pub entry_here : (i : ℕ) (e : Entry) → i < length es → e ≡ get_or es i e → slice_get (m.entries (entries_in vs es)) i ≡ Some (pair_of vs e)
+  entry_here i e l is = item_entry thing_total thing_exact (pair_of vs) es (pairs_rise vs es h) i e l is
 
-  pub key_there : (i : ℕ) (e : Entry) → i < length es → e ≡ get_or es i e → slice_get (m.keys (entries_in es)) i ≡ Some e.thing
-  key_there i e l is = slice_get-map (λ x. x.0) (m.entries (entries_in es)) i ∙ ap (option_map (λ x. x.0)) (entry_here i e l is)
+  pub key_there : (i : ℕ) (e : Entry) → i < length es → e ≡ get_or es i e → slice_get (m.keys (entries_in vs es)) i ≡ Some e.thing
+  key_there i e l is = slice_get-map (λ x. x.0) (m.entries (entries_in vs es)) i ∙ ap (option_map (λ x. x.0)) (entry_here i e l is)
 
-  pub all_entries : m.entries (entries_in es) ≡ map pair_of es
-  all_entries = m.entries-from_sorted thing_cmp (map pair_of es) h
+  pub all_entries : m.entries (entries_in vs es) ≡ map (pair_of vs) es
+  all_entries = m.entries-from_sorted thing_cmp (map (pair_of vs) es) (pairs_rise vs es h)
 
-  pub keys_here : m.keys (entries_in es) ≡ map (λ (e : Entry). e.thing) es
-  keys_here = ap (map (λ e. e.0)) all_entries ∙ things_of es
+  pub keys_here : m.keys (entries_in vs es) ≡ map (λ (e : Entry). e.thing) es
+  keys_here = ap (map (λ e. e.0)) all_entries ∙ things_of vs es
 
--- an entry is changed
-module _ (es : List Entry) (x : Thing) (i : ℕ) (e y : Entry) (h : DoRise es) (p : IsAt thing_cmp (map pair_of es) x i) (is : e ≡ get_or es i e) (same : y.thing ≡ e.thing) where
-  both_set : DoRise (set es i y) × (entries_in (set es i y) ≡ m.insert (entries_in es) x (y.count, y.row))
-  both_set = item_set thing_total thing_exact pair_of es h x i y p (same ∙ item_key thing_total thing_exact pair_of es x i e p is)
+abbrev pub blank : Thing → Entry
+blank x = record { thing = x; count = 0; first = 0; len = 0 }
 
-  pub count_there : entry_count (m.get (entries_in es) x) ≡ e.count
-  count_there = ap entry_count (value_at es h x i e p is)
+-- the entry of a thing that is held
+module _ (vs : List Value) (es : List Entry) (h : DoRise es) (x : Thing) (i : ℕ) (p : IsAt thing_cmp (map amount_of es) x i) (d : Entry) where
+  pub itself : get_or es i d ≡ get_or es i (get_or es i d)
+  itself = get_or_default es i d (get_or es i d) (place_within es x i p)
+
+  pub found : m.get (entries_in vs es) x ≡ Some ((get_or es i d).count, row_in vs (get_or es i d))
+  found = value_at vs es h x i (get_or es i d) p itself
+
+  pub key_found : (get_or es i d).thing ≡ x
+  key_found = key_of vs es h x i (get_or es i d) p itself
+
+-- the count of an entry is changed
+module _ (vs : List Value) (es : List Entry) (x : Thing) (i : ℕ) (e y : Entry) (h : DoRise es) (p : IsAt thing_cmp (map amount_of es) x i) (is : e ≡ get_or es i e) (same : y.thing ≡ e.thing) where
+  both_set : T (is_sorted thing_cmp (map (pair_of vs) (set es i y))) × (entries_in vs (set es i y) ≡ m.insert (entries_in vs es) x (y.count, row_in vs y))
+  both_set = item_set thing_total thing_exact (pair_of vs) es (pairs_rise vs es h) x i y (at_pairs vs es h x i p) (same ∙ key_of vs es h x i e p is)
+
+  pub count_there : entry_count (m.get (entries_in vs es) x) ≡ e.count
+  count_there = ap entry_count (value_at vs es h x i e p is)
 
   pub written_held : DoRise (set es i y)
-  written_held = both_set.0
+  written_held = amounts_rise vs (set es i y) both_set.0
 
-  pub written_entries : (f : ℕ → ℕ) → f e.count ≡ y.count → entries_in (set es i y) ≡ m.insert (entries_in es) x (f (entry_count (m.get (entries_in es) x)), y.row)
-  written_entries f g = both_set.1 ∙ ap (λ c. m.insert (entries_in es) x (c, y.row)) (sym g) ∙ ap (λ n. m.insert (entries_in es) x (f n, y.row)) (sym count_there)
+  pub counted_entries : (f : ℕ → ℕ) → f e.count ≡ y.count → row_in vs e ≡ row_in vs y
+      → entries_in vs (set es i y) ≡ m.insert (entries_in vs es) x (f (entry_count (m.get (entries_in vs es) x)), entry_row (m.get (entries_in vs es) x))
+  counted_entries f g row = both_set.1 ∙ ap (λ c. m.insert (entries_in vs es) x (c, row_in vs y)) (sym g) ∙ ap (λ n. m.insert (entries_in vs es) x (f n, row_in vs y)) (sym count_there)
+      ∙ ap (λ r. m.insert (entries_in vs es) x (f (entry_count (m.get (entries_in vs es) x)), r)) (sym (ap entry_row (value_at vs es h x i e p is) ∙ row))
 
-  -- its row stays
-  pub counted_entries : (f : ℕ → ℕ) → f e.count ≡ y.count → e.row ≡ y.row
-      → entries_in (set es i y) ≡ m.insert (entries_in es) x (f (entry_count (m.get (entries_in es) x)), entry_row (m.get (entries_in es) x))
-  counted_entries f g row = written_entries f g ∙ ap (λ r. m.insert (entries_in es) x (f (entry_count (m.get (entries_in es) x)), r)) (sym (ap entry_row (value_at es h x i e p is) ∙ row))
+-- what is written over these entries, and over their values
+module _ (vs ws : List Value) (es fs : List Entry) (h : DoRise es) (x : Thing) (i : ℕ) where
+  pub set_entries : (v : ℕ × Option Row) → IsAt thing_cmp (map amount_of es) x i → map (pair_of ws) fs ≡ set (map (pair_of vs) es) i (x, v) → DoRise fs × (entries_in ws fs ≡ m.insert (entries_in vs es) x v)
+  set_entries v p pairs =
+      let q = at_pairs vs es h x i p in (
+        amounts_rise ws fs (subst (λ ps. T (is_sorted thing_cmp ps)) (sym pairs) (sorted_at thing_total thing_exact (map (pair_of vs) es) (pairs_rise vs es h) x v i q)),
+        ap m.from_sorted pairs ∙ map_at thing_total thing_exact (map (pair_of vs) es) (pairs_rise vs es h) x v i q,
+      )
 
--- an entry more
-module _ (es : List Entry) (i : ℕ) (y : Entry) (h : DoRise es) (p : IsGap thing_cmp (map pair_of es) y.thing i) where
-  both_new : DoRise (insert es i y) × (entries_in (insert es i y) ≡ m.insert (entries_in es) y.thing (y.count, y.row))
-  both_new = item_insert thing_total thing_exact pair_of es h y.thing i y p refl
+  pub new_entries : (v : ℕ × Option Row) → IsGap thing_cmp (map amount_of es) x i → map (pair_of ws) fs ≡ insert (map (pair_of vs) es) i (x, v) → DoRise fs × (entries_in ws fs ≡ m.insert (entries_in vs es) x v)
+  new_entries v p pairs =
+      let q = gap_pairs vs es h x i p in (
+        amounts_rise ws fs (subst (λ ps. T (is_sorted thing_cmp ps)) (sym pairs) (sorted_gap thing_total thing_exact (map (pair_of vs) es) (pairs_rise vs es h) x v i q)),
+        ap m.from_sorted pairs ∙ map_gap thing_total thing_exact (map (pair_of vs) es) (pairs_rise vs es h) x v i q,
+      )
 
-  pub new_held : DoRise (insert es i y)
-  new_held = both_new.0
-
-  pub new_entries : entries_in (insert es i y) ≡ m.insert (entries_in es) y.thing (y.count, y.row)
-  new_entries = both_new.1
-
--- an entry less
-module _ (es : List Entry) (x : Thing) (i : ℕ) (h : DoRise es) (p : IsAt thing_cmp (map pair_of es) x i) where
-  both_less : DoRise (remove es i) × (entries_in (remove es i) ≡ m.remove (entries_in es) x)
-  both_less = item_remove thing_total thing_exact pair_of es h x i p
-
-  pub less_held : DoRise (remove es i)
-  less_held = both_less.0
-
-  pub less_entries : entries_in (remove es i) ≡ m.remove (entries_in es) x
-  less_entries = both_less.1
+  pub less_entries : IsAt thing_cmp (map amount_of es) x i → map (pair_of ws) fs ≡ remove (map (pair_of vs) es) i → DoRise fs × (entries_in ws fs ≡ m.remove (entries_in vs es) x)
+  less_entries p pairs =
+      let q = at_pairs vs es h x i p in (
+        amounts_rise ws fs (subst (λ ps. T (is_sorted thing_cmp ps)) (sym pairs) (sorted_remove thing_total thing_exact (map (pair_of vs) es) (pairs_rise vs es h) x i q)),
+        ap m.from_sorted pairs ∙ map_remove thing_total thing_exact (map (pair_of vs) es) (pairs_rise vs es h) x i q,
+      )
 
 -- some entries stay
-module _ (es : List Entry) (stays : Thing → Bool) (h : DoRise es) (left : List Entry) (is : left ≡ filter (λ e. stays e.thing) es) where
-  both_left : DoRise (filter (λ e. stays e.thing) es) × (entries_in (filter (λ e. stays e.thing) es) ≡ m.retain_keys (entries_in es) stays)
-  both_left = item_filter thing_total thing_exact pair_of es h stays
+pub stay_entries : (vs ws : List Value) (es fs : List Entry) (stays : Thing → Bool) → DoRise es → map (pair_of ws) fs ≡ filter (λ e. stays e.0) (map (pair_of vs) es)
+    → DoRise fs × (entries_in ws fs ≡ m.retain_keys (entries_in vs es) stays)
+stay_entries vs ws es fs stays h pairs =
+    let ps = map (pair_of vs) es in
+    let left = filter (λ (e : Thing × (ℕ × Option Row)). stays e.0) ps in
+    let both = item_filter thing_total thing_exact (λ (e : Thing × (ℕ × Option Row)). e) ps (subst (λ qs. T (is_sorted thing_cmp qs)) (sym (map-id ps)) (pairs_rise vs es h)) stays in (
+      amounts_rise ws fs (subst (λ qs. T (is_sorted thing_cmp qs)) (map-id left ∙ sym pairs) both.0),
+      ap m.from_sorted (pairs ∙ sym (map-id left)) ∙ both.1 ∙ ap (λ qs. m.retain_keys (m.from_sorted qs) stays) (map-id ps),
+    )
 
-  pub stay_held : DoRise left
-  stay_held = subst DoRise (sym is) both_left.0
-
-  pub stay_entries : entries_in left ≡ m.retain_keys (entries_in es) stays
-  stay_entries = ap entries_in is ∙ both_left.1
-
-pub no_entries : (es : List Entry) → es ≡ [] → entries_in es ≡ m.empty
-no_entries es e = ap entries_in e ∙ m.empty_of_len (entries_in []) (item_len thing_total thing_exact pair_of [] tt)
+pub no_entries : (vs : List Value) (es : List Entry) → es ≡ [] → entries_in vs es ≡ m.empty
+no_entries vs es e = ap (entries_in vs) e ∙ m.empty_of_len (entries_in vs []) (item_len thing_total thing_exact (pair_of vs) [] tt)
 
 pub none_held : (es : List Entry) → es ≡ [] → DoRise es
 none_held es e = subst DoRise (sym e) tt
 
+-- ---- how long rows are
+
+pub as_row_length : (xs : List Value) → row_length (as_row xs) ≡ length xs
+as_row_length [] = refl
+as_row_length (x ∷ xs) = refl
+
+pub row_in_length : (vs : List Value) (e : Entry) → e.first + e.len ≤ length vs → row_length (row_in vs e) ≡ e.len
+row_in_length vs e l = as_row_length (take e.len (drop e.first vs)) ∙ length-take-le e.len (drop e.first vs) (omega (arith, l, length-drop e.first vs))
+
 -- ---- what a gain says, where there was an entry and where there was none
 
-pub entered_present : (change : ℕ → ℕ) (row : Option Row) (x : Thing) (t : Table) (v : ℕ × Option Row) → m.get t.entries x ≡ Some v → entered change x row t ≡ record { spare = t.spare; entries = m.insert t.entries x (change (count_on t x), row) }
-entered_present change row x t v e =
-    let s : t.spare - cond true 0 1 ≡ t.spare = omega arith in
-    ap (λ b. record { spare = t.spare - cond b 0 1; entries = m.insert t.entries x (change (count_on t x), row) }) (ap is_some e)
-    ∙ ap (λ n. record { spare = n; entries = m.insert t.entries x (change (count_on t x), row) }) s
+module _ (change : ℕ → ℕ) (row : Option Row) (x : Thing) (t : Table) where
+  entered_by : Option (ℕ × Option Row) → Table
+  entered_by o = record {
+    spare = t.spare - cond (is_some o) 0 1;
+    spare_values = t.spare_values + row_length (entry_row o) - row_length row;
+    entries = m.insert t.entries x (change (entry_count o), row);
+  }
 
-pub entered_absent : (change : ℕ → ℕ) (row : Option Row) (x : Thing) (t : Table) → m.get t.entries x ≡ None → entered change x row t ≡ record { spare = t.spare - 1; entries = m.insert t.entries x (change 0, row) }
-entered_absent change row x t e = ap (λ o. record { spare = t.spare - cond (is_some o) 0 1; entries = m.insert t.entries x (change (entry_count o), row) }) e
+  pub entered_present : (v : ℕ × Option Row) (u : Table) → m.get t.entries x ≡ Some v
+      → u.spare ≡ t.spare → u.spare_values ≡ t.spare_values + row_length v.1 - row_length row → u.entries ≡ m.insert t.entries x (change v.0, row) → u ≡ entered change x row t
+  unfolding entered_by
+  entered_present v u there spare values entries =
+      let same : u.spare ≡ t.spare - 0 = omega (arith, spare) in
+      (λ j. record { spare = same j; spare_values = values j; entries = entries j }) ∙ ap entered_by (sym there)
+
+  pub entered_absent : (u : Table) → m.get t.entries x ≡ None
+      → u.spare ≡ t.spare - 1 → u.spare_values ≡ t.spare_values - row_length row → u.entries ≡ m.insert t.entries x (change 0, row) → u ≡ entered change x row t
+  unfolding entered_by
+  entered_absent u none spare values entries =
+      let same : u.spare_values ≡ t.spare_values + 0 - row_length row = omega (arith, values) in
+      (λ j. record { spare = spare j; spare_values = same j; entries = entries j }) ∙ ap entered_by (sym none)
+
+-- a count alone rises
+pub counted_present : (change : ℕ → ℕ) (x : Thing) (t : Table) (v : ℕ × Option Row) → m.get t.entries x ≡ Some v → counted change x t ≡ entered change x (entry_row (m.get t.entries x)) t
+counted_present change x t v there =
+    let row = entry_row (m.get t.entries x) in
+    let seen : is_some (m.get t.entries x) ≡ true = ap is_some there in
+    let spare : t.spare ≡ t.spare - cond (is_some (m.get t.entries x)) 0 1 = (let zero : t.spare ≡ t.spare - 0 = omega arith in zero) ∙ ap (λ b. t.spare - cond b 0 1) (sym seen) in
+    let values : t.spare_values ≡ t.spare_values + row_length row - row_length row = omega arith in
+    λ j. record { spare = spare j; spare_values = values j; entries = m.insert t.entries x (change (count_on t x), row) }
+
+-- rows do not matter to counts on actors
+pub same_actors : (vs ws : List Value) (es : List Entry) → on_actors (map (pair_of vs) es) ≡ on_actors (map (pair_of ws) es)
+same_actors vs ws [] = refl
+same_actors vs ws (e ∷ es) = ap (on_actor e.thing e.count) (same_actors vs ws es)

@@ -3,5 +3,7 @@ pub mod Entries
 pub mod Found
 pub mod Near
 pub mod Owners
+pub mod Rows
 pub mod Same
+pub mod Sweep
 pub mod Unheld

@@ -8,13 +8,12 @@ use Rattle.std.proofs.lemmas.Bool.Decides.{nat_tests}
 use Rattle.std.proofs.lemmas.List.{length-map, get_or-map}
 use Rattle.plain_list.specs.Rising.{IsAt}
 use Rattle.plain_list.proofs.Rising.{rises}
-use Rattle.letter_kinds.specs.Holdings.{Row}
 use Rattle.orca_names.specs.Names.{owner_of, serial_of, thing_cmp}
 use Rattle.orca_names.specs.declared.names.Thing.{Thing}
 use Rattle.orca_names.specs.declared.names.Thing.TheVariants.{Actor}
 use Rattle.orca_names.proofs.ThingOrder.{thing_total}
 use Rattle.foreign_table.specs.declared.search.Entry.{Entry}
-use Rattle.foreign_table.specs.Entry.{pair_of}
+use Rattle.foreign_table.specs.Entry.{amount_of}
 use Rattle.foreign_table.specs.Span.{IsSpan}
 use Rattle.foreign_table.specs.Table.{DoRise}
 
@@ -49,35 +48,35 @@ before_actor a x e = before_none (nat_cmp a (owner_of x)) a (owner_of x) (serial
 -- ---- among entries
 
 module _ (es : List Entry) where
-  key_at : (k : ℕ) (d : Entry) → k < length es → get_or (map pair_of es) k (pair_of d) ≡ pair_of (get_or es k d)
-  key_at k d l = get_or-map pair_of es k d (pair_of d) l
+  key_at : (k : ℕ) (d : Entry) → k < length es → get_or (map amount_of es) k (amount_of d) ≡ amount_of (get_or es k d)
+  key_at k d l = get_or-map amount_of es k d (amount_of d) l
 
-  within_keys : (k : ℕ) → k < length es → k < length (map pair_of es)
-  within_keys k l = omega (arith, length-map es pair_of)
+  within_keys : (k : ℕ) → k < length es → k < length (map amount_of es)
+  within_keys k l = omega (arith, length-map es amount_of)
 
   -- before an actor's place owners are lower
-  pub lower_before : (a i : ℕ) → i ≤ length es → ((j : ℕ) (d : Thing × (ℕ × Option Row)) → j < i → thing_cmp (Actor a) (get_or (map pair_of es) j d).0 ≡ Greater)
+  pub lower_before : (a i : ℕ) → i ≤ length es → ((j : ℕ) (d : Thing × ℕ) → j < i → thing_cmp (Actor a) (get_or (map amount_of es) j d).0 ≡ Greater)
       → (k : ℕ) (d : Entry) → k < i → owner_of (get_or es k d).thing < a
   lower_before a i within before k d l =
       let m : k < length es = omega arith in
-      before_actor a (get_or es k d).thing (ap (λ e. thing_cmp (Actor a) e.0) (sym (key_at k d m)) ∙ before k (pair_of d) l)
+      before_actor a (get_or es k d).thing (ap (λ e. thing_cmp (Actor a) e.0) (sym (key_at k d m)) ∙ before k (amount_of d) l)
 
-  pub no_lower_after : (a i : ℕ) → ((j : ℕ) (d : Thing × (ℕ × Option Row)) → i ≤ j → j < length (map pair_of es) → thing_cmp (Actor a) (get_or (map pair_of es) j d).0 ≡ Less)
+  pub no_lower_after : (a i : ℕ) → ((j : ℕ) (d : Thing × ℕ) → i ≤ j → j < length (map amount_of es) → thing_cmp (Actor a) (get_or (map amount_of es) j d).0 ≡ Less)
       → (k : ℕ) (d : Entry) → i ≤ k → k < length es → a ≤ owner_of (get_or es k d).thing
   no_lower_after a i after k d l m =
-      owners_in_order (Actor a) (get_or es k d).thing (ap (λ e. thing_cmp (Actor a) e.0) (sym (key_at k d m)) ∙ after k (pair_of d) l (within_keys k m))
+      owners_in_order (Actor a) (get_or es k d).thing (ap (λ e. thing_cmp (Actor a) e.0) (sym (key_at k d m)) ∙ after k (amount_of d) l (within_keys k m))
 
-  pub no_lower_from : (a i : ℕ) → IsAt thing_cmp (map pair_of es) (Actor a) i → (k : ℕ) (d : Entry) → i ≤ k → k < length es → a ≤ owner_of (get_or es k d).thing
+  pub no_lower_from : (a i : ℕ) → IsAt thing_cmp (map amount_of es) (Actor a) i → (k : ℕ) (d : Entry) → i ≤ k → k < length es → a ≤ owner_of (get_or es k d).thing
   no_lower_from a i p k d l m = elim (cases_lt i k) as (λ _. a ≤ owner_of (get_or es k d).thing) [
     | inl n ↦ no_lower_after a (i + 1) (λ j e o q. p.after j e (omega arith) q) k d (omega arith) m
     | inr n ↦
         let here : k ≡ i = omega arith in
-        let own : owner_of (get_or es k d).thing ≡ a = ap (λ e. owner_of e.0) (sym (key_at k d m)) ∙ ap (λ j. owner_of (get_or (map pair_of es) j (pair_of d)).0) here ∙ ap owner_of (p.has_key (pair_of d)) in
+        let own : owner_of (get_or es k d).thing ≡ a = ap (λ e. owner_of e.0) (sym (key_at k d m)) ∙ ap (λ j. owner_of (get_or (map amount_of es) j (amount_of d)).0) here ∙ ap owner_of (p.has_key (amount_of d)) in
         omega arith
   ]
 
-  thing_there : (k : ℕ) (d : Thing) → k < length es → get_or (map (λ (e : Entry). e.thing) es) k d ≡ (get_or es k (record { thing = d; count = 0; row = None })).thing
-  thing_there k d l = get_or-map (λ (e : Entry). e.thing) es k (record { thing = d; count = 0; row = None }) d l
+  thing_there : (k : ℕ) (d : Thing) → k < length es → get_or (map (λ (e : Entry). e.thing) es) k d ≡ (get_or es k (record { thing = d; count = 0; first = 0; len = 0 })).thing
+  thing_there k d l = get_or-map (λ (e : Entry). e.thing) es k (record { thing = d; count = 0; first = 0; len = 0 }) d l
 
   pub spans : (owner first end : ℕ) → DoRise es → first ≤ end → end ≤ length es
       → ((k : ℕ) (d : Entry) → k < first → owner_of (get_or es k d).thing < owner)
@@ -87,9 +86,9 @@ module _ (es : List Entry) where
   spans owner first end h low high below behind own stop = record {
     first_within = low;
     end_within = omega (arith, length-map es (λ (e : Entry). e.thing));
-    below = λ k d l. rw (thing_there k d (omega arith)) (below k (record { thing = d; count = 0; row = None }) l);
-    own = λ k d l m. rw (thing_there k d (omega arith)) (own k (record { thing = d; count = 0; row = None }) l m);
-    above = λ k d l m. let n : k < length es = omega (arith, length-map es (λ (e : Entry). e.thing)) in rw (thing_there k d n) (higher k (record { thing = d; count = 0; row = None }) l n);
+    below = λ k d l. rw (thing_there k d (omega arith)) (below k (record { thing = d; count = 0; first = 0; len = 0 }) l);
+    own = λ k d l m. rw (thing_there k d (omega arith)) (own k (record { thing = d; count = 0; first = 0; len = 0 }) l m);
+    above = λ k d l m. let n : k < length es = omega (arith, length-map es (λ (e : Entry). e.thing)) in rw (thing_there k d n) (higher k (record { thing = d; count = 0; first = 0; len = 0 }) l n);
   }
     where
       at_end : (d : Entry) → end < length es → owner < owner_of (get_or es end d).thing
@@ -104,7 +103,7 @@ module _ (es : List Entry) where
       higher k d l m = elim (cases_lt end k) as (λ _. owner < owner_of (get_or es k d).thing) [
         | inl n ↦
             let e : end < length es = omega arith in
-            let order = ap (λ x. thing_cmp x.0 (get_or (map pair_of es) k (pair_of d)).0) (sym (key_at end d e)) ∙ rises thing_total (map pair_of es) h end k (pair_of d) n (within_keys k m) in
+            let order = ap (λ x. thing_cmp x.0 (get_or (map amount_of es) k (amount_of d)).0) (sym (key_at end d e)) ∙ rises thing_total (map amount_of es) h end k (amount_of d) n (within_keys k m) in
             let up = owners_in_order (get_or es end d).thing (get_or es k d).thing (ap (λ x. thing_cmp (get_or es end d).thing x.0) (sym (key_at k d m)) ∙ order) in
             let first_up = at_end d e in
             omega arith

@@ -1,35 +1,55 @@
--- Entries are known by their map.
-use Rattle.std.proofs.Common.{◌≡◌, List, [], ◌∷◌, map, Option, Some, None, refl, sym, ap, ◌∙◌}
-use Rattle.std.specs.Bool.{Decides}
-use Rattle.std.specs.Option.{option_eq}
+-- Entries and the values of their rows are known by their map.
+use Rattle.std.proofs.Common.{◌≡◌, ℕ, ◌+◌, ◌≤◌, List, [], ◌∷◌, ◌++◌, length, map, take, drop, Option, Some, None, refl, sym, ap, subst, ◌∙◌, arith}
 use Rattle.std.specs.FinMap as m
+use Rattle.std.proofs.lemmas.List.{drop-drop, drop_all, take-append-drop}
 use Rattle.letter_kinds.specs.Holdings.{Row}
-use Rattle.orca_names.specs.Names.{thing_cmp}
-use Rattle.orca_names.specs.contracts.row.RowPartialEq.TheImpl.{eq-value}
-use Rattle.orca_names.proofs.EqualRows.{row_eq-Decides}
+use Rattle.orca_names.specs.declared.names.Thing.{Thing}
+use Rattle.orca_names.specs.declared.names.Value.{Value}
 use Rattle.foreign_table.specs.declared.search.Entry.{Entry}
-use Rattle.foreign_table.specs.Entry.{pair_of}
-use Rattle.foreign_table.specs.Table.{DoRise, entries_in}
+use Rattle.foreign_table.specs.Entry.{FollowFrom, as_row, pair_of}
+use Rattle.foreign_table.specs.Table.{DoRise, entries_in, row_length}
+use Rattle.foreign_table.proofs.Entries.{all_entries, row_in_length}
+use Rattle.foreign_table.proofs.Rows.{all_of}
 
--- rows that may not be known are compared exactly
-pub maybe_row-Decides : (a b : Option Row) → Decides (option_eq eq-value.it a b) (a ≡ b)
-maybe_row-Decides None None = (λ _. refl, λ _. refl)
-maybe_row-Decides None (Some s) = (λ e. cc, λ e. cc)
-maybe_row-Decides (Some r) None = (λ e. cc, λ e. cc)
-maybe_row-Decides (Some r) (Some s) = (λ e. ap Some ((row_eq-Decides r s).0 e), λ e. (row_eq-Decides r s).1 (let f : r ≡ s = cc in f))
+alike : (vs ws : List Value) (at end stop : ℕ) (es fs : List Entry) → FollowFrom at es end → FollowFrom at fs stop → end ≤ length vs → stop ≤ length ws → map (pair_of vs) es ≡ map (pair_of ws) fs → es ≡ fs
+alike vs ws at end stop [] [] f g l k e = refl
+alike vs ws at end stop [] (y ∷ fs) f g l k e = cc
+alike vs ws at end stop (x ∷ es) [] f g l k e = cc
+alike vs ws at end stop (x ∷ es) (y ∷ fs) f g l k e =
+    let head : pair_of vs x ≡ pair_of ws y = cc in
+    let thing : x.thing ≡ y.thing = ap (λ p. p.0) head in
+    let count : x.count ≡ y.count = ap (λ p. p.1.0) head in
+    let first : x.first ≡ y.first = f.0 ∙ sym g.0 in
+    let x_within : x.first + x.len ≤ length vs = omega (arith, all_of (at + x.len) end es f.2, f.0, l) in
+    let y_within : y.first + y.len ≤ length ws = omega (arith, all_of (at + y.len) stop fs g.2, g.0, k) in
+    let len : x.len ≡ y.len = sym (row_in_length vs x x_within) ∙ ap (λ p. row_length p.1.1) head ∙ row_in_length ws y y_within in
+    let others : map (pair_of vs) es ≡ map (pair_of ws) fs = cc in
+    let rest = alike vs ws (at + x.len) end stop es fs f.2 (subst (λ n. FollowFrom (at + n) fs stop) (sym len) g.2) l k others in
+    λ i. record { thing = thing i; count = count i; first = first i; len = len i } ∷ rest i
 
-alike : (es fs : List Entry) → map pair_of es ≡ map pair_of fs → es ≡ fs
-alike [] [] e = refl
-alike [] (f ∷ fs) e = cc
-alike (o ∷ es) [] e = cc
-alike (o ∷ es) (f ∷ fs) e =
-    let first : pair_of o ≡ pair_of f = cc in
-    let thing : o.thing ≡ f.thing = ap (λ p. p.0) first in
-    let count : o.count ≡ f.count = ap (λ p. p.1.0) first in
-    let row : o.row ≡ f.row = ap (λ p. p.1.1) first in
-    let others : map pair_of es ≡ map pair_of fs = cc in
-    λ i. record { thing = thing i; count = count i; row = row i } ∷ alike es fs others i
+row_values : Option Row → List Value
+row_values None = []
+row_values (Some row) = row
 
-pub known_by_map : (es fs : List Entry) → DoRise es → DoRise fs → entries_in es ≡ entries_in fs → es ≡ fs
-known_by_map es fs h k e = alike es fs
-    (sym (m.entries-from_sorted thing_cmp (map pair_of es) h) ∙ ap m.entries e ∙ m.entries-from_sorted thing_cmp (map pair_of fs) k)
+-- all values, as rows have them
+all_values : List (Thing × (ℕ × Option Row)) → List Value
+all_values [] = []
+all_values (p ∷ ps) = row_values p.1.1 ++ all_values ps
+
+values_of : (xs : List Value) → row_values (as_row xs) ≡ xs
+unfolding row_values
+values_of [] = refl
+values_of (x ∷ xs) = refl
+
+values_there : (vs : List Value) (at : ℕ) (es : List Entry) → FollowFrom at es (length vs) → all_values (map (pair_of vs) es) ≡ drop at vs
+unfolding all_values
+values_there vs at [] f = sym (drop_all at vs (omega (arith, f)))
+values_there vs at (e ∷ es) f =
+    (λ i. (values_of (take e.len (drop e.first vs)) ∙ ap (λ n. take e.len (drop n vs)) f.0) i ++ (values_there vs (at + e.len) es f.2 ∙ sym (drop-drop e.len at vs)) i) ∙ take-append-drop e.len (drop at vs)
+
+pub known_by_map : (vs ws : List Value) (es fs : List Entry) → DoRise es → DoRise fs → FollowFrom 0 es (length vs) → FollowFrom 0 fs (length ws) → entries_in vs es ≡ entries_in ws fs → (es ≡ fs) × (vs ≡ ws)
+known_by_map vs ws es fs h k f g e =
+    let pairs = sym (all_entries vs es h) ∙ ap m.entries e ∙ all_entries ws fs k in (
+      alike vs ws 0 (length vs) (length ws) es fs f g (omega arith) (omega arith) pairs,
+      sym (values_there vs 0 es f) ∙ ap all_values pairs ∙ values_there ws 0 fs g,
+    )

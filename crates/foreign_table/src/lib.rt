@@ -1,6 +1,7 @@
 //! What an actor holds of others: counts and rows by thing.
 #![tactic(auto)]
 
+mod aside;
 mod back;
 mod holding;
 mod keep;

@@ -8,21 +8,23 @@ ghost use Rattle.orca_names.specs.Names.{thing_cmp};
 ghost use Rattle.orca_names.specs.declared.names.Thing.TheVariants.{Obj as object};
 ghost use Rattle.plain_list.specs.Rising.{IsAt, IsGap};
 ghost use Rattle.foreign_table.specs.declared.search.Entry.{Entry as entry};
-ghost use Rattle.foreign_table.specs.Entry.{pair_of};
+ghost use Rattle.foreign_table.specs.Entry.{amount_of};
 ghost use Rattle.foreign_table.specs.Table.{DoRise};
 
-use orca_names::{ObjName, Row, Thing};
+use orca_names::{ObjName, Thing};
 use ref_weights::Held;
 
 // Among so few things one is found soonest by looking at them in turn.
 const FEW: usize = 8;
 
-/// A thing of another actor, what is held on it and, for an object, its row where that is known.
+/// A thing of another actor, what is held on it and, for an object, where the values of its row
+/// begin and how many they are; 0 where no row is known.
 #[derive(Clone, Copy, Debug, PartialEq, Eq)]
 pub(crate) struct Entry {
     pub(crate) thing: Thing,
     pub(crate) count: Held,
-    pub(crate) row: Option<Row>,
+    pub(crate) first: usize,
+    pub(crate) len: u8,
 }
 
 /// Whether a thing comes before another.
@@ -155,8 +157,8 @@ fn first_from(held: &[Entry], thing: &Thing) -> usize
 #[inline(never)]
 fn search(held: &[Entry], thing: Thing) -> Result<usize, usize>
     requires { DoRise held.now }
-    ensures { MatchResult result (IsAt thing_cmp (map pair_of held.now) thing)
-        (IsGap thing_cmp (map pair_of held.now) thing) }
+    ensures { MatchResult result (IsAt thing_cmp (map amount_of held.now) thing)
+        (IsGap thing_cmp (map amount_of held.now) thing) }
 {
     let place = first_from(held, &thing);
     if stands_at(held, place, &thing) {
@@ -169,8 +171,8 @@ fn search(held: &[Entry], thing: Thing) -> Result<usize, usize>
 #[inline(always)]
 pub(crate) fn place_of(held: &[Entry], thing: Thing) -> Result<usize, usize>
     requires { DoRise held.now }
-    ensures { MatchResult result (IsAt thing_cmp (map pair_of held.now) thing)
-        (IsGap thing_cmp (map pair_of held.now) thing) }
+    ensures { MatchResult result (IsAt thing_cmp (map amount_of held.now) thing)
+        (IsGap thing_cmp (map amount_of held.now) thing) }
 {
     match guess(held, &thing) {
         Some(place) => Ok(place),

@@ -1,25 +1,25 @@
 // The table.
 
-ghost use Rattle.std.specs.Prelude.{◌≡◌, ◌↔◌, ◌+◌, ◌-◌, ◌^◌, ◌<◌, ◌≤◌, Some, None, length, map, slice_get, slice_set, vec_len, vec_capacity, IfOk, IfSome, IsOk, IsSome, IsTrue, MatchOption, OnOk, is_some, option_map};
-ghost use Rattle.std.specs.List.{insert};
+ghost use Rattle.std.specs.Prelude.{◌≡◌, ◌↔◌, ◌+◌, ◌-◌, ◌^◌, ◌<◌, ◌≤◌, List, [], Some, None, length, map, slice_get, IfOk, IfSome, IsOk, IsSome, IsTrue, MatchOption, OnOk, is_some};
 ghost use Rattle.std.specs.Option.{option_copied};
 ghost use Rattle.std.specs.FinMap as m;
 ghost use Rattle.orca_names.specs.Names.{thing_cmp};
+ghost use Rattle.orca_names.specs.declared.names.Value as names;
 ghost use Rattle.plain_list.specs.Rising.{IsAt};
 ghost use Rattle.foreign_table.specs.Back.{BackRises, given_up};
-ghost use Rattle.foreign_table.specs.Entry.{pair_of};
+ghost use Rattle.foreign_table.specs.Entry.{amount_of, pair_of};
 ghost use Rattle.foreign_table.specs.Span.{IsSpan};
-ghost use Rattle.foreign_table.specs.Table.{DoRise, Table, count_on, count_unheld, counted, entered, entries_in, known_row, on_actors, without};
+ghost use Rattle.foreign_table.specs.Table.{DoRise, Table, count_on, count_unheld, counted, entered, entries_in, known_row, on_actors, row_length, without};
 ghost use Rattle.letter_kinds.specs.Holdings.{entry_row};
 ghost use Rattle.row_store.specs.Told.{told_row};
 ghost use Rattle.ref_weights.specs.Limit.{count_limit};
 
+use crate::aside::{put_entry, raise, row_of, take_entry, told_values};
 use crate::keep::keep_others;
 use crate::search::{Entry, place_of};
 use crate::span::span;
 use letter_kinds::Amounts;
-use orca_names::{ActorName, NoMemory, ObjName, Row, Thing};
-use ref_weights::Held;
+use orca_names::{ActorName, NoMemory, ObjName, Thing, Value};
 use row_store::Told;
 use std::alloc::Global;
 use std::marker::Model;
@@ -32,10 +32,13 @@ const FIRST_PLACES: usize = 4;
 #[derive(Drop)]
 pub struct ForeignTable {
     held: Vec<Entry>,
+    // Of the rows, one behind another in the order of their entries.
+    values: Vec<Value>,
 }
 
 impl Model for ForeignTable {
-    ghost use Rattle.std.specs.Prelude.{◌-◌, vec_len, vec_capacity};
+    ghost use Rattle.std.specs.Prelude.{◌-◌, length, vec_len, vec_capacity};
+    ghost use Rattle.foreign_table.specs.Entry.{FollowFrom};
     ghost use Rattle.foreign_table.specs.Table.{DoRise, Table, coded_table, entries_in};
 
     ghost Value = { Table };
@@ -44,66 +47,23 @@ impl Model for ForeignTable {
 
     ghost view = { λ s. record {
       spare = vec_capacity s.held - vec_len s.held;
-      entries = entries_in s.held.items;
+      spare_values = vec_capacity s.values - vec_len s.values;
+      entries = entries_in s.values.items s.held.items;
     } };
 
-    ghost invariant = { λ s. DoRise s.held.items };
+    ghost invariant = { λ s. DoRise s.held.items
+        × FollowFrom 0 s.held.items (length s.values.items) };
 }
 
 // The place of a thing that is there.
 fn place_there(held: &[Entry], thing: Thing) -> usize
     requires own { DoRise held.now }
-    requires there { IsSome (m.get (entries_in held.now) thing) }
-    ensures { IsAt thing_cmp (map pair_of held.now) thing result }
+    requires there { (values : List names.Value) × IsSome (m.get (entries_in values held.now) thing) }
+    ensures { IsAt thing_cmp (map amount_of held.now) thing result }
 {
     match place_of(held, thing) {
         Ok(i) => i,
         Err(_) => unreachable!(),
-    }
-}
-
-// The count of an entry rises, and its row is the one that is told.
-#[inline(always)]
-fn raise(entry: &mut Entry, by: u64, told: &Told)
-    requires { entry.old.count + by < count_limit }
-    ensures { let row = told_row told.now in
-        entry.new ≡ record { thing = entry.old.thing; count = entry.old.count + by; row = row } }
-{
-    entry.count.gain(by);
-    match told {
-        Told::Here(row) => entry.row = Some(*row),
-        Told::Nothing => entry.row = None,
-    }
-}
-
-// There is room.
-#[inline(always)]
-fn put_entry(held: &mut Vec<Entry>, i: usize, thing: &Thing, by: u64, told: &Told)
-    requires fits { by < count_limit }
-    requires room { vec_len held.old < vec_capacity held.old }
-    requires within { i ≤ vec_len held.old }
-    ensures items { held.new.items
-        ≡ insert held.old.items i (record { thing = thing.now; count = by; row = told_row told.now }) }
-    ensures len { vec_len held.new ≡ vec_len held.old + 1 }
-    ensures capacity { vec_capacity held.new ≡ vec_capacity held.old }
-{
-    let thing = *thing;
-    let count = Held::new(by);
-    if i < held.len() {
-        let row = told.here().copied();
-        let _done = held.insert(i, Entry { thing, count, row }).is_ok();
-        return;
-    }
-    // None is written as such: to copy it would move the room of a row.
-    match told {
-        Told::Here(row) => {
-            let row = Some(*row);
-            held.push_reserved(Entry { thing, count, row });
-        }
-        Told::Nothing => {
-            let row = None;
-            held.push_reserved(Entry { thing, count, row });
-        }
     }
 }
 
@@ -122,7 +82,7 @@ fn places_to_take(wanted: usize, capacity: usize) -> usize
 
 fn is_held(held: &[Entry], thing: Thing) -> bool
     requires { DoRise held.now }
-    ensures { result ≡ is_some (m.get (entries_in held.now) thing) }
+    ensures { (values : List names.Value) → result ≡ is_some (m.get (entries_in values held.now) thing) }
 {
     match place_of(held, thing) {
         Ok(_) => true,
@@ -133,7 +93,8 @@ fn is_held(held: &[Entry], thing: Thing) -> bool
 // How many of these things are not held.
 fn count_unheld(held: &[Entry], things: &Amounts) -> usize
     requires { DoRise held.now }
-    ensures { result ≡ count_unheld things.now (entries_in held.now) }
+    ensures { (values : List names.Value)
+        → result ≡ count_unheld things.now (entries_in values held.now) }
 {
     let mut count = 0;
     for amount in things.as_slice() {
@@ -144,9 +105,9 @@ fn count_unheld(held: &[Entry], things: &Amounts) -> usize
     count
 }
 
-// How many of the things are actors.
+// How many of the things are actors; their rows do not matter.
 fn count_actors(held: &[Entry]) -> usize
-    ensures { result ≡ length (on_actors (map pair_of held.now)) }
+    ensures { result ≡ length (on_actors (map (pair_of []) held.now)) }
 {
     let mut count = 0;
     for entry in held {
@@ -158,7 +119,7 @@ fn count_actors(held: &[Entry]) -> usize
 }
 
 fn actors_of(alloc: Global, held: &[Entry]) -> Result<Vec<(ActorName, u64)>, NoMemory>
-    ensures { IfOk result (λ found. found.items ≡ on_actors (map pair_of held.now)) }
+    ensures { IfOk result (λ found. found.items ≡ on_actors (map (pair_of []) held.now)) }
 {
     let mut found = Vec::with_capacity(alloc, count_actors(held))?;
     for entry in held {
@@ -175,13 +136,20 @@ fn same_entries(held: &[Entry], others: &[Entry]) -> bool
     held == others
 }
 
+fn same_values(values: &[Value], others: &[Value]) -> bool
+    ensures { IsTrue result ↔ (values.now ≡ others.now) }
+{
+    values == others
+}
+
 impl ForeignTable {
     /// Nothing is held. It takes no memory.
     pub fn new(alloc: Global) -> ForeignTable
-        ensures { result ≡ record { spare = 0; entries = m.empty } }
+        ensures { result ≡ record { spare = 0; spare_values = 0; entries = m.empty } }
     {
         ForeignTable {
             held: Vec::new(alloc),
+            values: Vec::new(alloc),
         }
     }
 
@@ -219,18 +187,48 @@ impl ForeignTable {
         self.reserve(n)
     }
 
+    /// Raises the room for values of rows to at least this, if there is less.
+    ///
+    /// # Errors
+    /// `NoMemory` where memory was refused; all but the room is then as before.
+    #[inline(always)]
+    pub fn reserve_values(&mut self, n: usize) -> Result<(), NoMemory>
+        ensures room { OnOk result (n ≤ self.new.spare_values) }
+        ensures more { self.old.spare_values ≤ self.new.spare_values }
+        ensures same { self.new ≡ record self.old { spare_values = self.new.spare_values } }
+        ensures enough { n ≤ self.old.spare_values → IsOk result }
+    {
+        if n == 0 {
+            return Ok(());
+        }
+        // Most actors know one row, so the first room is no more than asked.
+        if self.values.capacity() == 0 {
+            self.values.reserve_exact(n)?;
+        } else {
+            self.values.reserve(n)?;
+        }
+        Ok(())
+    }
+
     /// The count on a thing rises, from 0 where nothing was held, and its row is the one that is told.
     /// It takes no memory.
     #[inline(always)]
     pub fn gain(&mut self, thing: Thing, told: &Told, by: u64)
         requires room { m.get self.old.entries thing ≡ None → 0 < self.old.spare }
+        requires values { row_length (told_row told.now) ≤ self.old.spare_values }
         requires fits { count_on self.old thing + by < count_limit }
         ensures { self.new ≡ entered (λ count. count + by) thing (told_row told.now) self.old }
     {
-        let place = place_of(self.held.as_slice(), thing);
-        match place {
-            Ok(i) => raise(&mut self.held[i], by, told),
-            Err(i) => put_entry(&mut self.held, i, &thing, by, told),
+        match place_of(self.held.as_slice(), thing) {
+            Ok(i) => raise(&mut self.held, &mut self.values, i, by, told_values(told)),
+            Err(i) => put_entry(
+                &mut self.held,
+                &mut self.values,
+                i,
+                &thing,
+                by,
+                told_values(told),
+            ),
         }
     }
 
@@ -265,7 +263,7 @@ impl ForeignTable {
     {
         match place_of(self.held.as_slice(), thing) {
             Ok(i) => self.held[i].count.mint(by),
-            Err(i) => put_entry(&mut self.held, i, &thing, by, &Told::Nothing),
+            Err(i) => put_entry(&mut self.held, &mut self.values, i, &thing, by, &[]),
         }
     }
 
@@ -276,9 +274,7 @@ impl ForeignTable {
         ensures gone { self.new ≡ without thing self.old }
     {
         let i = place_there(self.held.as_slice(), thing);
-        let count = self.held[i].count.give_back();
-        self.held.remove(i);
-        count
+        take_entry(&mut self.held, &mut self.values, i)
     }
 
     /// Takes these entries out, whose owners and things rise, in one pass.
@@ -290,15 +286,17 @@ impl ForeignTable {
         if back.is_empty() {
             return;
         }
-        keep_others(&mut self.held, back);
+        keep_others(&mut self.held, &mut self.values, back);
     }
 
     /// The row that is known of an object.
-    pub fn row(&self, n: ObjName) -> Option<&Row>
-        ensures { option_copied result ≡ known_row self.now n }
+    #[inline(always)]
+    pub fn row(&self, n: ObjName) -> Option<&[Value]>
+        ensures row { option_copied result ≡ known_row self.now n }
+        ensures room { IfSome result (λ values. (1 ≤ length values.now) × (length values.now ≤ 8)) }
     {
         match place_of(self.held.as_slice(), Thing::Obj(n)) {
-            Ok(i) => self.held[i].row.as_ref(),
+            Ok(i) => row_of(&self.held[i], self.values.as_slice()),
             Err(_) => None,
         }
     }
@@ -312,14 +310,20 @@ impl ForeignTable {
     }
 
     /// An entry by its place in the order of things: the thing, its count and its row.
-    pub fn at(&self, i: usize) -> (Thing, u64, Option<&Row>)
+    pub fn at(&self, i: usize) -> (Thing, u64, Option<&[Value]>)
         requires { i < m.len self.now.entries }
         ensures entry { slice_get (m.entries self.now.entries) i
             ≡ Some (result.0, (result.1, option_copied result.2)) }
         ensures bound { result.1 < count_limit }
+        ensures room { IfSome result.2
+            (λ values. (1 ≤ length values.now) × (length values.now ≤ 8)) }
     {
         let entry = &self.held[i];
-        (entry.thing, entry.count.get(), entry.row.as_ref())
+        (
+            entry.thing,
+            entry.count.get(),
+            row_of(entry, self.values.as_slice()),
+        )
     }
 
     /// The thing at a place in the order of things.
@@ -349,15 +353,17 @@ impl ForeignTable {
     }
 
     /// What is held on a thing: its count and its row; `None` exactly where it is not held.
-    pub fn entry(&self, thing: Thing) -> Option<(u64, Option<&Row>)>
+    pub fn entry(&self, thing: Thing) -> Option<(u64, Option<&[Value]>)>
         ensures entry { MatchOption result (m.get self.now.entries thing ≡ None)
             (λ e. m.get self.now.entries thing ≡ Some (e.0, option_copied e.1)) }
         ensures bound { IfSome result (λ e. e.0 < count_limit) }
+        ensures room { IfSome result (λ e. IfSome e.1
+            (λ values. (1 ≤ length values.now) × (length values.now ≤ 8))) }
     {
         match place_of(self.held.as_slice(), thing) {
             Ok(i) => {
                 let entry = &self.held[i];
-                Some((entry.count.get(), entry.row.as_ref()))
+                Some((entry.count.get(), row_of(entry, self.values.as_slice())))
             }
             Err(_) => None,
         }
@@ -378,10 +384,12 @@ impl ForeignTable {
     /// # Errors
     /// `NoMemory` where memory was refused.
     pub fn copy(&self, alloc: Global) -> Result<ForeignTable, NoMemory>
-        ensures { IfOk result (λ copied. copied ≡ record self.now { spare = copied.spare }) }
+        ensures { IfOk result (λ copied. copied
+            ≡ record self.now { spare = copied.spare; spare_values = copied.spare_values }) }
     {
         let held = self.held.as_slice().to_vec(alloc)?;
-        Ok(ForeignTable { held })
+        let values = self.values.as_slice().to_vec(alloc)?;
+        Ok(ForeignTable { held, values })
     }
 
     /// Whether the entries are those of another table.
@@ -389,5 +397,6 @@ impl ForeignTable {
         ensures { IsTrue result ↔ (self.now.entries ≡ other.now.entries) }
     {
         same_entries(self.held.as_slice(), other.held.as_slice())
+            && same_values(self.values.as_slice(), other.values.as_slice())
     }
 }

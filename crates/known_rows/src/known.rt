@@ -4,7 +4,7 @@ ghost use Rattle.std.specs.Prelude.{Some, Contains};
 
 use foreign_table::ForeignTable;
 use object_heap::ObjectHeap;
-use orca_names::{ObjName, Row, Rows};
+use orca_names::{ObjName, Rows, Value};
 
 /// The rows that an actor has in both of its tables.
 #[derive(Clone, Copy)]
@@ -23,10 +23,13 @@ impl Rows for KnownRows<'_> {
     ghost within = { λ s n row e. row_known-within s.heap.now s.foreign.now n row e };
 
     #[inline(always)]
-    fn row_of(&self, n: ObjName) -> Option<&Row> {
+    fn row_of(&self, n: ObjName) -> Option<&[Value]> {
         let heap = self.heap;
         if n.owner == heap.owner() {
-            heap.row(n)
+            match heap.row(n) {
+                Some(row) => Some(row.as_slice()),
+                None => None,
+            }
         } else {
             let foreign = self.foreign;
             foreign.row(n)

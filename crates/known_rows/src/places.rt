@@ -1,6 +1,6 @@
 // Places of what an actor knows.
 
-ghost use Rattle.std.specs.Prelude.{◌≡◌, ◌≢◌, ◌↔◌, ◌∷◌, ◌++◌, ◌+◌, ◌-◌, ◌^◌, ◌<◌, ℕ, Some, None, length, slice_get, IsTrue};
+ghost use Rattle.std.specs.Prelude.{◌≡◌, ◌≢◌, ◌↔◌, ◌∷◌, ◌++◌, ◌+◌, ◌-◌, ◌^◌, ◌<◌, ◌≤◌, ℕ, Some, None, length, slice_get, IfSome, IsTrue};
 ghost use Rattle.std.specs.FinMap as m;
 ghost use Rattle.foreign_table.specs.Span.{IsSpan};
 ghost use Rattle.foreign_table.specs.Table.{known_row};
@@ -17,7 +17,7 @@ ghost use Rattle.orca_names.specs.declared.names.Thing.TheVariants.{Actor as act
 use crate::known::KnownRows;
 use foreign_table::ForeignTable;
 use object_heap::ObjectHeap;
-use orca_names::{ObjName, Row, RowReader, Rows, Thing, Value};
+use orca_names::{ObjName, Reading, Row, RowReader, Thing, Value};
 use reach_walk::{Dense, PlacedRows, Places};
 
 /// The rows that an actor has in both of its tables, with places: first what it holds of actors
@@ -133,9 +133,12 @@ impl<'a> KnownPlaces<'a> {
 
 // A thing, and its row where it is an object: an actor has none.
 #[inline(always)]
-fn of_object<'a>(thing: Thing, row: Option<&'a Row>) -> (Thing, Option<&'a Row>)
+fn of_object<'a>(thing: Thing, row: Option<&'a [Value]>) -> (Thing, Option<&'a [Value]>)
+    requires { IfSome row (λ values. (1 ≤ length values.now) × (length values.now ≤ 8)) }
     ensures thing { result.0 ≡ thing }
     ensures row { option_copied result.1 ≡ thing_row (λ _. option_copied row.entry) thing }
+    ensures room { IfSome result.1 (λ values.
+        (1 ≤ length values.now) × (length values.now ≤ 8)) }
 {
     match thing {
         Thing::Actor(_) => (thing, None),
@@ -145,10 +148,12 @@ fn of_object<'a>(thing: Thing, row: Option<&'a Row>) -> (Thing, Option<&'a Row>)
 
 // The thing at a place among the held things, and its row where it is an object.
 #[inline(always)]
-fn held_entry(foreign: &ForeignTable, j: usize) -> (Thing, Option<&Row>)
+fn held_entry(foreign: &ForeignTable, j: usize) -> (Thing, Option<&[Value]>)
     requires { j < m.len foreign.now.entries }
     ensures thing { slice_get (m.keys foreign.now.entries) j ≡ Some result.0 }
     ensures row { option_copied result.1 ≡ thing_row (known_row foreign.now) result.0 }
+    ensures room { IfSome result.1 (λ values.
+        (1 ≤ length values.now) × (length values.now ≤ 8)) }
 {
     let (thing, _, row) = foreign.at(j);
     of_object(thing, row)
@@ -157,11 +162,13 @@ fn held_entry(foreign: &ForeignTable, j: usize) -> (Thing, Option<&Row>)
 impl KnownPlaces<'_> {
     // The thing at a place, and its row where it is an object.
     #[inline(always)]
-    fn entry_there(&self, at: usize) -> (Thing, Option<&Row>)
+    fn entry_there(&self, at: usize) -> (Thing, Option<&[Value]>)
         requires { at < length (placed_things self.now.rows.heap.now self.now.rows.foreign.now) }
         ensures thing { place_in self.now.rows.heap.now self.now.rows.foreign.now result.0 ≡ Some at }
         ensures row { let rows = row_known self.now.rows.heap.now self.now.rows.foreign.now in
             option_copied result.1 ≡ thing_row rows result.0 }
+        ensures room { IfSome result.1 (λ values.
+            (1 ≤ length values.now) × (length values.now ≤ 8)) }
     {
         let foreign = self.rows.foreign;
         if at < self.first {
@@ -173,7 +180,7 @@ impl KnownPlaces<'_> {
         }
         if at < self.above {
             let (n, row, _) = heap.at(at - self.first - 1);
-            return (Thing::Obj(n), Some(row));
+            return (Thing::Obj(n), Some(row.as_slice()));
         }
         held_entry(foreign, at - self.above + self.end)
     }
@@ -191,12 +198,14 @@ impl RowReader for KnownPlaces<'_> {
 
     ghost all = { λ s. names_known s.rows.heap.now s.rows.foreign.now };
 
-    fn read_row(&mut self, n: ObjName) -> Option<Row> {
-        self.rows.row_of(n).copied()
+    fn read_into(&mut self, n: ObjName, row: &mut Row) -> bool {
+        let mut reading = Reading { rows: &self.rows };
+        reading.read_into(n, row)
     }
 
     fn read_place(&mut self, n: ObjName, i: u64) -> Option<Value> {
-        self.rows.row_of(n)?.get(i)
+        let mut reading = Reading { rows: &self.rows };
+        reading.read_place(n, i)
     }
 
     ghost within = { λ s n row e. row_known-within s.rows.heap.now s.rows.foreign.now n row e };
@@ -206,7 +215,7 @@ impl PlacedRows for KnownPlaces<'_> {
     ghost use Rattle.known_rows.specs.OnlyPlaced.{rows_have_places};
 
     #[inline(always)]
-    fn entry_at(&self, at: usize) -> (Thing, Option<&Row>) {
+    fn entry_at(&self, at: usize) -> (Thing, Option<&[Value]>) {
         if at < self.count {
             self.entry_there(at)
         } else {

@@ -9,7 +9,7 @@ use crate::known::KnownRows;
 use crate::places::KnownPlaces;
 use crate::turn_rows::TurnRows;
 use object_heap::ObjectHeap;
-use orca_names::{Args, ObjName, Row, RowReader, Rows, Serial, Thing, Value};
+use orca_names::{Args, ObjName, Reading, Row, RowReader, Rows, Serial, Thing, Value};
 use reach_walk::{Dense, PlacedRows, Places};
 
 // Among so few things places are not worth while.
@@ -75,7 +75,7 @@ fn leads_on(rows: &TurnRows<'_>, value: &Value) -> bool {
         return false;
     };
     match rows.row_of(*n) {
-        Some(row) => names_object(row.as_slice()),
+        Some(row) => names_object(row),
         None => false,
     }
 }
@@ -174,12 +174,13 @@ impl RowReader for TurnPlaces<'_> {
         (with_made s.made.now (holdings_of 0 s.known.rows.heap.now s.known.rows.foreign.now))
         n row e };
 
-    fn read_row(&mut self, n: ObjName) -> Option<Row> {
+    fn read_into(&mut self, n: ObjName, row: &mut Row) -> bool {
         let rows = TurnRows {
             known: self.known.rows,
             made: self.made,
         };
-        rows.row_of(n).copied()
+        let mut reading = Reading { rows: &rows };
+        reading.read_into(n, row)
     }
 }
 
@@ -187,13 +188,13 @@ impl PlacedRows for TurnPlaces<'_> {
     ghost use Rattle.known_rows.specs.HavePlaces.{rows_have_places};
 
     #[inline(always)]
-    fn entry_at(&self, at: usize) -> (Thing, Option<&Row>) {
+    fn entry_at(&self, at: usize) -> (Thing, Option<&[Value]>) {
         if at < self.first {
             return self.known.entry_at(at);
         }
         let i = at - self.first;
         if i < self.made.len() {
-            return (self.made_thing(i), Some(&self.made[i]));
+            return (self.made_thing(i), Some(self.made[i].as_slice()));
         }
         self.known.entry_at(at - self.made.len())
     }

@@ -5,7 +5,7 @@ ghost use Rattle.std.specs.Option.{option_copied};
 ghost use Rattle.known_rows.specs.InTurn.{made_in_turn};
 
 use crate::known::KnownRows;
-use orca_names::{ActorName, ObjName, Row, Rows};
+use orca_names::{ActorName, ObjName, Row, Rows, Value};
 
 /// The rows that an actor has where a turn stops: those of before, and those that the turn made.
 #[derive(Clone, Copy)]
@@ -42,10 +42,11 @@ impl Rows for TurnRows<'_> {
     ghost within = { λ s n row e. row_is_known s.known.heap.now.owner
         (with_made s.made.now (holdings_of 0 s.known.heap.now s.known.foreign.now)) n row e };
 
-    fn row_of(&self, n: ObjName) -> Option<&Row> {
+    #[inline(always)]
+    fn row_of(&self, n: ObjName) -> Option<&[Value]> {
         let heap = self.known.heap;
         match made_row(self.made, heap.owner(), heap.made(), &n) {
-            Some(row) => Some(row),
+            Some(row) => Some(row.as_slice()),
             None => self.known.row_of(n),
         }
     }

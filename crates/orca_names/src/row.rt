@@ -1,6 +1,6 @@
 // Few values in eight fixed places, seen as a list.
 
-ghost use Rattle.std.specs.Prelude.{◌≡◌, ◌<◌, ◌≤◌, [], ◌∷◌, ◌++◌, length, slice_get, slice_set, replicate, Some};
+ghost use Rattle.std.specs.Prelude.{◌≡◌, ◌+◌, ◌<◌, ◌≤◌, [], ◌∷◌, ◌++◌, length, slice_get, slice_set, replicate, Some};
 ghost use Rattle.orca_names.specs.declared.names.Value.TheVariants.{Null};
 ghost use Rattle.orca_names.specs.Places.{padded};
 
@@ -57,9 +57,7 @@ impl Args {
         ensures { result ≡ values.now }
     {
         let mut args = Args::new();
-        for value in values {
-            args.push(*value);
-        }
+        args.extend_from_slice(values);
         args
     }
 
@@ -71,6 +69,17 @@ impl Args {
         let places = &mut self.places;
         places[self.used] = value;
         self.used += 1;
+    }
+
+    /// These values more, at the end.
+    #[inline(always)]
+    pub fn extend_from_slice(&mut self, values: &[Value])
+        requires { length self.old + length values.now ≤ 8 }
+        ensures { self.new ≡ self.old ++ values.now }
+    {
+        for value in values {
+            self.push(*value);
+        }
     }
 
     /// The number of values.
@@ -176,12 +185,15 @@ impl Row {
         Row { values }
     }
 
-    /// Becomes the values of another row, in place.
+    /// Becomes a row of these values, in place.
     #[inline(always)]
-    pub fn copy_from(&mut self, other: &Row)
-        ensures { self.new ≡ other.now }
+    pub fn set_values(&mut self, values: &[Value])
+        requires { (1 ≤ length values.now) × (length values.now ≤ 8) }
+        ensures { self.new ≡ values.now }
     {
-        self.values.copy_from(&other.values);
+        let args = &mut self.values;
+        *args = Args::new();
+        args.extend_from_slice(values);
     }
 
     /// The number of values.

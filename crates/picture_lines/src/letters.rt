@@ -1,10 +1,10 @@
 // The lines of letters.
 
 ghost use Rattle.std.specs.Prelude.{◌≡◌, ◌++◌, ◌∷◌, [], codes, flat_map, map, OnOk, string_bytes};
-ghost use Rattle.std.specs.Option.{option_copied, option_map_or};
+ghost use Rattle.std.specs.Option.{option_map_or};
 ghost use Rattle.behaviour_text.specs.Text.{line_of};
 ghost use Rattle.letter_kinds.specs.Letters.{as_letter};
-ghost use Rattle.row_store.specs.Told.{as_load};
+ghost use Rattle.row_store.specs.Told.{as_load, told_row};
 ghost use Rattle.picture_rules.specs.Words.{amount_words, text_of_lines, thing_word, value_words};
 ghost use Rattle.picture_rules.specs.Seats.{brings_line, letter_lines, loads_lines};
 
@@ -12,33 +12,33 @@ use crate::words::{end_with_amounts, end_with_things, end_with_values, push_thin
 use behaviour_code::Names;
 use letter_kinds::{Amounts, Letter, Load};
 use mail_rows::MailRow;
-use orca_names::{Args, Row, Thing, Value};
+use orca_names::{Args, Thing, Value};
+use row_store::Told;
 use std::alloc::AllocError;
 
-/// The values of a row, none where there is none.
-fn values_of(row: Option<&Row>) -> &[Value]
-    ensures { result.now ≡ option_map_or (λ r. r) (option_copied row.entry) [] }
+/// The values of the row that is told, none where none is.
+fn values_of(told: &Told) -> &[Value]
+    ensures { result.now ≡ option_map_or (λ r. r) (told_row told.now) [] }
 {
-    match row {
-        Some(row) => row.as_slice(),
-        None => &[],
+    match told {
+        Told::Here(row) => row.as_slice(),
+        Told::Nothing => &[],
     }
 }
 
-/// A line of a thing and its row.
+/// A line of a thing and the values of its row.
 pub(crate) fn push_row(
     out: &mut String,
     word: &str,
     thing: &Thing,
-    row: Option<&Row>,
+    row: &[Value],
 ) -> Result<(), AllocError>
     ensures { OnOk result (string_bytes out.new ≡ string_bytes out.old
-        ++ line_of (word.now ∷ thing_word thing.now
-        ∷ value_words (option_map_or (λ r. r) (option_copied row.entry) []))) }
+        ++ line_of (word.now ∷ thing_word thing.now ∷ value_words row.now)) }
 {
     out.push_str(word)?;
     push_thing(out, thing)?;
-    end_with_values(out, values_of(row))
+    end_with_values(out, row)
 }
 
 /// The line of the behaviour and the arguments.
@@ -68,7 +68,7 @@ fn push_brought(out: &mut String, rows: &Load) -> Result<(), AllocError>
         ≡ string_bytes out.old ++ text_of_lines (map brings_line (as_load rows.now))) }
 {
     for (thing, row) in rows.as_slice() {
-        push_row(out, "brings", thing, row.here())?;
+        push_row(out, "brings", thing, values_of(row))?;
     }
     Ok(())
 }

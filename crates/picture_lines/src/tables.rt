@@ -2,6 +2,7 @@
 
 ghost use Rattle.std.specs.Prelude.{◌≡◌, ◌++◌, ◌∷◌, [], codes, map, OnOk, string_bytes};
 ghost use Rattle.std.specs.FinMap as m;
+ghost use Rattle.std.specs.Option.{option_copied, option_map_or};
 ghost use Rattle.std.specs.Fmt.{decimal};
 ghost use Rattle.behaviour_text.specs.Text.{line_of};
 ghost use Rattle.picture_rules.specs.Words.{text_of_lines, thing_word};
@@ -11,7 +12,7 @@ use crate::letters::push_row;
 use crate::words::{end_with_values, push_thing};
 use foreign_table::ForeignTable;
 use object_heap::ObjectHeap;
-use orca_names::{Row, Thing};
+use orca_names::{Row, Thing, Value};
 use row_table::RowTable;
 use std::alloc::AllocError;
 
@@ -58,15 +59,28 @@ pub(crate) fn push_holds(out: &mut String, foreign: &ForeignTable) -> Result<(),
     Ok(())
 }
 
+/// The values of a row that is known, none where none is.
+fn values_in(row: Option<&[Value]>) -> &[Value]
+    ensures { result.now ≡ option_map_or (λ r. r) (option_copied row.entry) [] }
+{
+    match row {
+        Some(values) => values,
+        None => &[],
+    }
+}
+
 /// The lines of the rows that letters brought.
 pub(crate) fn push_known(out: &mut String, known: &RowTable) -> Result<(), AllocError>
     ensures { OnOk result (string_bytes out.new
         ≡ string_bytes out.old ++ text_of_lines (map knows_line (m.entries known.now.rows))) }
 {
-    let held = known.held();
+    let held = match known.held() {
+        Some(held) => held,
+        None => return Ok(()),
+    };
     for i in 0..held.len() {
         let (thing, _, row) = held.at(i);
-        push_row(out, "knows", &thing, row)?;
+        push_row(out, "knows", &thing, values_in(row))?;
     }
     Ok(())
 }

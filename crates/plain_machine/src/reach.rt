@@ -47,7 +47,7 @@ impl Edges for PlainGraph<'_> {
                     actors: self.actors,
                 };
                 match rows.row_of(n) {
-                    Some(row) => push_all(row.as_slice(), found),
+                    Some(row) => push_all(row, found),
                     None => Ok(()),
                 }
             }

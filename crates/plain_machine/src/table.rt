@@ -17,7 +17,7 @@ use crate::acts::Stand;
 use crate::first::{can_act, first_event};
 use behaviour_check::Checked;
 use event_rule::Event;
-use orca_names::{ActorName, Fields, NoMemory, ObjName, Row, Rows};
+use orca_names::{ActorName, Fields, NoMemory, ObjName, Row, Rows, Value};
 use plain_rules::{PlainActor, PlainLetter};
 use ready_set::ReadySet;
 use std::alloc::Global;
@@ -39,12 +39,14 @@ impl Rows for AllRows<'_> {
 
     ghost within = { λ s n row e. row_is_listed s.actors.now n row e };
 
-    fn row_of(&self, n: ObjName) -> Option<&Row> {
+    fn row_of(&self, n: ObjName) -> Option<&[Value]> {
         let owner = n.owner.0 as usize;
-        if owner < self.actors.len() {
-            self.actors[owner].rows.get(n.serial.get() as usize)
-        } else {
-            None
+        if owner >= self.actors.len() {
+            return None;
+        }
+        match self.actors[owner].rows.get(n.serial.get() as usize) {
+            Some(row) => Some(row.as_slice()),
+            None => None,
         }
     }
 }

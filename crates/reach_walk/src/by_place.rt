@@ -54,7 +54,7 @@ fn take_far<R: PlacedRows, L: Ledger>(
     steps.tick();
     let (_, row) = rows.entry_at(at);
     match row {
-        Some(row) => met.meet_all(row.as_slice(), rows, steps),
+        Some(row) => met.meet_all(row, rows, steps),
         None => Ok(()),
     }
 }
@@ -178,14 +178,15 @@ pub fn mark_bits<R: PlacedRows>(
 // Appends a thing with its row. The row is copied once, into its place: as a part of what is appended
 // it would be copied twice.
 #[inline(always)]
-fn push_with_row(load: &mut Vec<(Thing, Told)>, thing: Thing, row: &Row)
-    requires { vec_len load.old < vec_capacity load.old }
+fn push_with_row(load: &mut Vec<(Thing, Told)>, thing: Thing, row: &[Value])
+    requires room { vec_len load.old < vec_capacity load.old }
+    requires values { (1 ≤ length row.now) × (length row.now ≤ 8) }
     ensures { load.new.items ≡ load.old.items ++ (thing, here row.now) ∷ [] }
 {
     let at = load.len();
     load.push_reserved((thing, Told::Here(Row::from_args(Args::nulls(1)))));
     if let Told::Here(place) = &mut load[at].1 {
-        place.copy_from(row);
+        place.set_values(row);
     }
 }
 

@@ -28,7 +28,7 @@ fn leads_nowhere<R: Rows, L: Ledger>(n: &ObjName, rows: &R, steps: &mut Steps<L>
 {
     steps.tick();
     match rows.row_of(*n) {
-        Some(row) => names_nothing_within(row.as_slice(), steps),
+        Some(row) => names_nothing_within(row, steps),
         None => true,
     }
 }

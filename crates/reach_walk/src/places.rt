@@ -1,6 +1,6 @@
 // Places of things, and rows that are lent by place.
 
-ghost use Rattle.std.specs.Prelude.{◌≡◌, ◌<◌, ℕ, Option, None, Some};
+ghost use Rattle.std.specs.Prelude.{◌≡◌, ◌<◌, ◌≤◌, ℕ, Option, None, Some, IfSome, length};
 ghost use Rattle.std.specs.Ordering.{nat_cmp};
 ghost use Rattle.orca_names.specs.Names.{thing_cmp};
 ghost use Rattle.std.specs.Option.{option_copied};
@@ -11,7 +11,7 @@ ghost use Rattle.reach_walk.specs.Dense.{StandTogether};
 ghost use Rattle.reach_walk.specs.Reach.{thing_row};
 
 use crate::dense::Dense;
-use orca_names::{Row, RowReader, Thing};
+use orca_names::{RowReader, Thing, Value};
 
 /// Places that many things have, as those in a table, in the order of things: what was seen of them
 /// is told by one bit a place. A thing without a place is allowed.
@@ -41,12 +41,14 @@ pub trait Places {
 /// Rows of things that have places: a place leads to its thing and to the row. A thing without a
 /// place has no row.
 pub trait PlacedRows: RowReader + Places {
-    /// The thing at a place, and its row where it has one. What is answered where there is no such
-    /// place means nothing.
-    fn entry_at(&self, at: usize) -> (Thing, Option<&Row>)
+    /// The thing at a place, and the values of its row where it has one. What is answered where there
+    /// is no such place means nothing.
+    fn entry_at(&self, at: usize) -> (Thing, Option<&[Value]>)
         ensures thing { at < Self.count self.now → Self.place self.now result.0 ≡ Some at }
         ensures row { at < Self.count self.now
-            → option_copied result.1 ≡ thing_row (Self.rows self.now) result.0 };
+            → option_copied result.1 ≡ thing_row (Self.rows self.now) result.0 }
+        ensures room { IfSome result.1 (λ values.
+            (1 ≤ length values.now) × (length values.now ≤ 8)) };
 
     /// Objects of one owner that stand together: none, or as many as do. What a walk meets of these it
     /// finds by their serials alone.

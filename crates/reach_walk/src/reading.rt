@@ -11,11 +11,8 @@ pub(crate) fn read_row<R: RowReader>(rows: &mut R, thing: &Thing, row: &mut Row)
     ensures rows { (R.rows rows.new ≡ R.rows rows.old) × (R.all rows.new ≡ R.all rows.old)
         × (R.beside rows.new ≡ R.beside rows.old) }
 {
-    if let Thing::Obj(n) = thing {
-        if let Some(found) = rows.read_row(*n) {
-            *row = found;
-            return true;
-        }
+    match thing {
+        Thing::Actor(_) => false,
+        Thing::Obj(n) => rows.read_into(*n, row),
     }
-    false
 }

@@ -10,7 +10,7 @@ mod nowhere;
 mod own_rows;
 mod plans;
 
-pub use in_use::plan_in_use;
+pub use in_use::unused_rows;
 pub use letters::{find_loaded_roots, rows_of, without_rows};
 pub use needs::missing;
 pub use nowhere::NoRows;

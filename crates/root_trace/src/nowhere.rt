@@ -20,8 +20,8 @@ impl RowReader for NoRows {
 
     ghost all = { λ _. [] };
 
-    fn read_row(&mut self, _: ObjName) -> Option<Row> {
-        None
+    fn read_into(&mut self, _: ObjName, _: &mut Row) -> bool {
+        false
     }
 
     ghost within = { λ _ _ row e. absurd (none-some row e) };

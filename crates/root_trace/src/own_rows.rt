@@ -4,7 +4,7 @@ ghost use Rattle.std.specs.Prelude.{◌≡◌, Some};
 ghost use Rattle.object_heap.specs.Heap.{own_row};
 
 use known_rows::KnownPlaces;
-use orca_names::{ObjName, Row, RowReader, Thing};
+use orca_names::{ObjName, Row, RowReader, Thing, Value};
 use reach_walk::{Dense, PlacedRows, Places};
 
 /// The rows of the own objects alone, with the places of all that the actor knows.
@@ -26,9 +26,15 @@ impl RowReader for OwnRows<'_> {
 
     ghost all = { λ s. own_names s.known.rows.heap.now };
 
-    fn read_row(&mut self, n: ObjName) -> Option<Row> {
+    fn read_into(&mut self, n: ObjName, row: &mut Row) -> bool {
         let heap = self.known.rows.heap;
-        heap.row(n).copied()
+        match heap.row(n) {
+            Some(found) => {
+                *row = *found;
+                true
+            }
+            None => false,
+        }
     }
 
     ghost within = { λ s n row e. own_named s.known.rows.heap.now n row e };
@@ -37,7 +43,7 @@ impl RowReader for OwnRows<'_> {
 impl PlacedRows for OwnRows<'_> {
     ghost use Rattle.root_trace.specs.Own.{own_have_places};
 
-    fn entry_at(&self, at: usize) -> (Thing, Option<&Row>) {
+    fn entry_at(&self, at: usize) -> (Thing, Option<&[Value]>) {
         let known = &self.known;
         let (thing, row) = known.entry_at(at);
         if thing.owner() == known.rows.heap.owner() {

@@ -1,17 +1,18 @@
 -- Maps whose values are mapped.
-use Rattle.std.proofs.Common.{◌≡◌, ℕ, ◌+◌, ◌-◌, arith, Bool, true, false, cond, List, [], ◌∷◌, map, Option, Some, None, refl, sym, ap, ◌∙◌}
+use Rattle.std.proofs.Common.{◌≡◌, ℕ, ◌+◌, ◌-◌, arith, Bool, true, false, cond, List, [], ◌∷◌, length, map, Option, Some, None, refl, sym, ap, ◌∙◌}
 use Rattle.std.specs.Prelude.{T, is_some, option_map}
 use Rattle.std.specs.Ordering.{eq_by_cmp}
 use Rattle.std.specs.declared.cmp.Ordering.TheVariants.{Equal}
 use Rattle.std.specs.FinMap as m
 use Rattle.std.specs.FinMap.Entries.{find, is_sorted}
+use Rattle.std.proofs.lemmas.List.{nil_from_length}
 use Rattle.plain_list.proofs.Rising.{same_rise}
 use Rattle.orca_names.specs.Names.{thing_cmp}
 use Rattle.orca_names.specs.declared.names.Thing.{Thing}
 use Rattle.orca_names.proofs.ThingOrder.{thing_exact, thing_total}
-use Rattle.letter_kinds.specs.Holdings.{Entries, Row, entry_count}
-use Rattle.foreign_table.specs.Table.{entered}
-use Rattle.row_table.specs.Table.{Rows, as_held, bare_entry, learnt, mapped, row_in, rows_in, uncounted}
+use Rattle.letter_kinds.specs.Holdings.{Entries, Row, entry_count, entry_row}
+use Rattle.foreign_table.specs.Table.{Table, entered, row_length}
+use Rattle.row_table.specs.Table.{IsUncounted, KnownRows, Rows, as_held, bare_entry, known_by, learnt, mapped, nothing_known, row_in, rows_in, uncounted}
 
 same_keys : {X Y : Type 0} (f : X → Y) (es : List (Thing × X)) → map (λ (e : Thing × X). e.0) es ≡ map (λ (e : Thing × Y). e.0) (map (λ (e : Thing × X). (e.0, f e.1)) es)
 same_keys f [] = refl
@@ -50,6 +51,16 @@ mapped-kept f t p = m.same_map thing_total thing_exact _ _ (λ q.
     passed true o = refl
     passed false o = refl
 
+-- of no rows none are kept
+pub none_kept : (rows : Rows) → rows ≡ m.empty → (p : Thing → Bool) → rows ≡ m.retain_keys rows p
+none_kept rows none p = m.same_map thing_total thing_exact _ _ (λ q.
+    let e : m.get rows q ≡ None = ap (λ t. m.get t q) none ∙ m.get-empty thing_cmp q in
+    e ∙ either (p q) ∙ ap (λ o. cond (p q) o None) (sym e) ∙ sym (m.get-retain_keys rows p q (alike p q)))
+  where
+    either : (b : Bool) → ◌≡◌ {A = Option Row} None (cond b None None)
+    either true = refl
+    either false = refl
+
 -- one more, mapped before or after
 pub mapped-insert : {X Y : Type 0} (f : X → Y) (t : m.FinMap thing_cmp X) (x : Thing) (v : X) → mapped f (m.insert t x v) ≡ m.insert (mapped f t) x (f v)
 mapped-insert f t x v = m.same_map thing_total thing_exact _ _ (λ q.
@@ -79,15 +90,32 @@ none_counted rows x = ap entry_count (get-mapped bare_entry rows x) ∙ zero_in 
 
 -- ---- entries that are those of rows, and stay so
 
--- no entry
-pub none_uncounted : (es : Entries) → es ≡ m.empty → rows_in es ≡ m.empty
-none_uncounted es none = m.same_map thing_total thing_exact _ _ (λ q.
-    get-mapped row_in es q ∙ ap (λ t. option_map row_in (m.get t q)) none ∙ ap (option_map row_in) (m.get-empty thing_cmp q) ∙ sym (m.get-empty thing_cmp q))
+-- of no entries no entries
+pub mapped-empty : {X Y : Type 0} (f : X → Y) → mapped f m.empty ≡ m.empty
+mapped-empty f = m.same_map thing_total thing_exact _ _ (λ q. get-mapped f m.empty q ∙ ap (option_map f) (m.get-empty thing_cmp q) ∙ sym (m.get-empty thing_cmp q))
 
-pub none_again : (es : Entries) → es ≡ m.empty → uncounted (rows_in es) ≡ es
-none_again es none = m.same_map thing_total thing_exact _ _ (λ q.
-    get-mapped bare_entry (rows_in es) q ∙ ap (option_map bare_entry) (ap (λ t. m.get t q) (none_uncounted es none) ∙ m.get-empty thing_cmp q)
-    ∙ sym (ap (λ t. m.get t q) none ∙ m.get-empty thing_cmp q))
+pub none_listed : {X : Type 0} (t : m.FinMap thing_cmp X) → t ≡ m.empty → m.entries t ≡ []
+none_listed {X} t none = nil_from_length (m.entries t) (sym (m.len-entries t) ∙ ap m.len none ∙ m.len-empty thing_cmp X)
+
+pub held_none : (t : KnownRows) → t.rows ≡ m.empty → (as_held t).entries ≡ m.empty
+held_none t none = ap uncounted none ∙ mapped-empty bare_entry
+
+pub none_held : (t : Table) → t ≡ record { spare = 0; spare_values = 0; entries = m.empty } → t ≡ as_held nothing_known
+none_held t is = is ∙ (λ i. record { spare = 0; spare_values = 0; entries = sym (mapped-empty bare_entry) i })
+
+pub none_uncounted : (t : Table) → t.entries ≡ m.empty → IsUncounted t
+none_uncounted t none = ap (λ es. uncounted (rows_in es)) none ∙ ap uncounted (mapped-empty row_in) ∙ mapped-empty bare_entry ∙ sym none
+
+pub known_again : (t : KnownRows) → known_by (as_held t) ≡ t
+known_again t = λ i. record { spare = t.spare; spare_values = t.spare_values; rows = rows_back t.rows i }
+
+-- a table of no entries knows nothing, and no other does
+module _ (t : Table) (own : IsUncounted t) where
+  pub knows_none : m.len t.entries ≡ 0 → (known_by t).rows ≡ m.empty
+  knows_none none = ap rows_in (m.empty_of_len t.entries none) ∙ mapped-empty row_in
+
+  pub none_known : (known_by t).rows ≡ m.empty → m.len t.entries ≡ 0
+  none_known none = ap m.len (sym own ∙ held_none (known_by t) none) ∙ m.len-empty thing_cmp (ℕ × Option Row)
 
 module _ (before : Entries) (own : uncounted (rows_in before) ≡ before) where
   -- some fewer
@@ -105,16 +133,24 @@ module _ (before : Entries) (own : uncounted (rows_in before) ≡ before) where
       same None = refl
       same (Some row) = refl
 
-  -- one row more
-  pub told : (x : Thing) (o : Option Row) (spare : ℕ) → true ≡ is_some o
-      → entered (λ n. n + 0) x o (record { spare = spare; entries = before }) ≡ as_held (learnt x o (record { spare = spare; rows = rows_in before }))
-  told x None spare some = cc
-  told x (Some row) spare some =
-      let zero : entry_count (m.get before x) + 0 ≡ 0 = (let z = not_counted x in omega arith) in
-      λ i. record {
-        spare = spare - cond (as_often x i) 0 1;
-        entries = ((λ j. m.insert (sym own j) x (zero j, Some row)) ∙ sym (mapped-insert bare_entry (rows_in before) x row)) i;
-      }
+  -- as many values
+  as_long : (x : Thing) → row_length (entry_row (m.get before x)) ≡ row_length (m.get (rows_in before) x)
+  as_long x = ap (λ es. row_length (entry_row (m.get es x))) (sym own) ∙ ap (λ o. row_length (entry_row o)) (get-mapped bare_entry (rows_in before) x) ∙ same (m.get (rows_in before) x)
+    where
+      same : (o : Option Row) → row_length (entry_row (option_map bare_entry o)) ≡ row_length o
+      same None = refl
+      same (Some row) = refl
+
+-- one row more
+pub told : (before : Table) → IsUncounted before → (x : Thing) (o : Option Row) → true ≡ is_some o → entered (λ n. n + 0) x o before ≡ as_held (learnt x o (known_by before))
+told before own x None some = cc
+told before own x (Some row) some =
+    let zero : entry_count (m.get before.entries x) + 0 ≡ 0 = (let z = not_counted before.entries own x in omega arith) in
+    λ i. record {
+      spare = before.spare - cond (as_often before.entries own x i) 0 1;
+      spare_values = before.spare_values + as_long before.entries own x i - length row;
+      entries = ((λ j. m.insert (sym own j) x (zero j, Some row)) ∙ sym (mapped-insert bare_entry (rows_in before.entries) x row)) i;
+    }
 
 module _ (es : Entries) (rows : Rows) (is : es ≡ uncounted rows) where
   pub rows_are : rows_in es ≡ rows

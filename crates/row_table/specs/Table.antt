@@ -1,27 +1,34 @@
 -- The rows that an actor was told of others' objects.
-use Rattle.std.specs.Prelude.{ℕ, ◌-◌, if◌then◌else◌, is_some, [], map, Option, Some, None, refl}
+use Rattle.std.specs.Prelude.{ℕ, ◌≡◌, ◌+◌, ◌-◌, if◌then◌else◌, is_some, [], length, map, Option, Some, None, refl}
 use Rattle.std.specs.FinMap as m
+use Rattle.std.specs.Global.{Box}
 use Rattle.std.specs.Option.{option_map_or}
 use Rattle.std.specs.Coded.{Coded, code_by, coded×, coded_ℕ}
 use Rattle.orca_names.specs.Codes.{coded_thing, coded_row}
 use Rattle.orca_names.specs.Names.{thing_cmp}
 use Rattle.orca_names.specs.declared.names.Thing.{Thing}
 use Rattle.letter_kinds.specs.Holdings.{Entries, Row}
-use Rattle.foreign_table.specs.Table.{Table}
+use Rattle.foreign_table.specs.Table.{Table, row_length}
 
 -- rows by their objects
 abbrev pub Rows : Type 0
 Rows = m.FinMap thing_cmp Row
 
--- the room for new rows, and the rows
+-- the room for new rows and for their values, and the rows
 pub record KnownRows : Type 0 where
   pub spare : ℕ
+  pub spare_values : ℕ
   pub rows : Rows
 
 abbrev pub coded_rows : Coded KnownRows
 coded_rows =
-    code_by (ℕ × Rows) (coded× coded_ℕ (m.code coded_thing coded_row))
-    (λ t. (t.spare, t.rows)) (λ p. record { spare = p.0; rows = p.1 }) (λ _. refl)
+    code_by (ℕ × (ℕ × Rows)) (coded× coded_ℕ (coded× coded_ℕ (m.code coded_thing coded_row)))
+    (λ t. (t.spare, (t.spare_values, t.rows)))
+    (λ p. record { spare = p.0; spare_values = p.1.0; rows = p.1.1 }) (λ _. refl)
+
+-- no row, and no room
+abbrev pub nothing_known : KnownRows
+nothing_known = record { spare = 0; spare_values = 0; rows = m.empty }
 
 -- with what a function makes of each value
 abbrev pub mapped : {X Y : Type 0} → (X → Y) → m.FinMap thing_cmp X → m.FinMap thing_cmp Y
@@ -45,12 +52,32 @@ rows_in entries = mapped row_in entries
 
 -- the table of these entries
 abbrev pub as_held : KnownRows → Table
-as_held t = record { spare = t.spare; entries = uncounted t.rows }
+as_held t =
+    record { spare = t.spare; spare_values = t.spare_values; entries = uncounted t.rows }
 
--- the row of the thing is as told; one that is new takes room
+-- the rows of the table
+abbrev pub known_by : Table → KnownRows
+known_by t =
+    record { spare = t.spare; spare_values = t.spare_values; rows = rows_in t.entries }
+
+-- the rows of the table in memory of its own, if it is there
+abbrev pub known_in : Option (Box Table) → KnownRows
+known_in None = nothing_known
+known_in (Some held) = known_by held.value
+
+-- each entry is of count 0, with a row
+abbrev pub IsUncounted : Table → Type 0
+IsUncounted t = uncounted (rows_in t.entries) ≡ t.entries
+
+abbrev pub AreUncounted : Option (Box Table) → Type 0
+AreUncounted None = Unit {0}
+AreUncounted (Some held) = IsUncounted held.value
+
+-- the row of the thing is as told; one that is new takes room, and its values in place of others
 abbrev pub learnt : Thing → Option Row → KnownRows → KnownRows
 learnt x None t = t
 learnt x (Some row) t = record {
   spare = t.spare - (if is_some (m.get t.rows x) then 0 else 1);
+  spare_values = t.spare_values + row_length (m.get t.rows x) - length row;
   rows = m.insert t.rows x row;
 }

@@ -1,11 +1,11 @@
 // The table.
 
-ghost use Rattle.std.specs.Prelude.{◌≡◌, ◌↔◌, ◌<◌, ◌≤◌, None, not, IfOk, IsTrue, OnOk};
+ghost use Rattle.std.specs.Prelude.{◌≡◌, ◌↔◌, ◌<◌, ◌≤◌, None, not, IfOk, IsTrue, MatchOption, OnOk};
 ghost use Rattle.std.specs.FinMap as m;
 ghost use Rattle.row_store.specs.Told.{told_row};
 ghost use Rattle.foreign_table.specs.Back.{BackRises, goes_back};
-ghost use Rattle.foreign_table.specs.Table.{Table};
-ghost use Rattle.row_table.specs.Table.{KnownRows, as_held, learnt, rows_in, uncounted};
+ghost use Rattle.foreign_table.specs.Table.{row_length};
+ghost use Rattle.row_table.specs.Table.{as_held, learnt, nothing_known};
 
 use foreign_table::ForeignTable;
 use letter_kinds::Amounts;
@@ -15,62 +15,121 @@ use std::alloc::Global;
 use std::marker::Model;
 
 /// The rows of others' objects that letters brought, and the room for new ones. No count is kept:
-/// for what reads rows by a table of held things, each stands in one with count 0.
+/// for what reads rows by a table of held things, each stands in one with count 0. The table stands
+/// in memory of its own, which is taken when it is first needed: most actors know no such row.
 #[derive(Drop)]
 pub struct RowTable {
-    held: ForeignTable,
+    held: Option<Box<ForeignTable>>,
+    alloc: Global,
 }
 
 impl Model for RowTable {
-    ghost use Rattle.std.specs.Prelude.{◌≡◌};
-    ghost use Rattle.row_table.specs.Table.{KnownRows, coded_rows, rows_in, uncounted};
+    ghost use Rattle.row_table.specs.Table.{AreUncounted, KnownRows, coded_rows, known_in};
 
     ghost Value = { KnownRows };
 
     ghost coded = { coded_rows };
 
-    ghost view = { λ s. record { spare = s.held.spare; rows = rows_in s.held.entries } };
+    ghost view = { λ s. known_in s.held };
 
-    ghost invariant = { λ s. uncounted (rows_in s.held.entries) ≡ s.held.entries };
+    ghost invariant = { λ s. AreUncounted s.held };
+}
+
+// Raises the room of a table.
+fn reserve_in(table: &mut ForeignTable, n: usize, values: usize) -> Result<(), NoMemory>
+    ensures room { OnOk result (n ≤ table.new.spare) }
+    ensures values { OnOk result (values ≤ table.new.spare_values) }
+    ensures more { (table.old.spare ≤ table.new.spare)
+        × (table.old.spare_values ≤ table.new.spare_values) }
+    ensures same { table.new.entries ≡ table.old.entries }
+{
+    table.reserve(n)?;
+    table.reserve_values(values)
 }
 
 impl RowTable {
     /// No row is known. It takes no memory.
     pub fn new(alloc: Global) -> RowTable
-        ensures { result ≡ record { spare = 0; rows = m.empty } }
+        ensures { result ≡ nothing_known }
     {
-        RowTable {
-            held: ForeignTable::new(alloc),
+        RowTable { held: None, alloc }
+    }
+
+    // Raises the room, where some is wanted.
+    #[inline(never)]
+    fn reserve_some(&mut self, n: usize, values: usize) -> Result<(), NoMemory>
+        ensures room { OnOk result (n ≤ self.new.spare) }
+        ensures values { OnOk result (values ≤ self.new.spare_values) }
+        ensures more { (self.old.spare ≤ self.new.spare)
+            × (self.old.spare_values ≤ self.new.spare_values) }
+        ensures same { self.new.rows ≡ self.old.rows }
+    {
+        match &mut self.held {
+            Some(table) => reserve_in(table, n, values),
+            None => {
+                let mut table = ForeignTable::new(self.alloc);
+                reserve_in(&mut table, n, values)?;
+                self.held = Some(Box::new(self.alloc, table)?);
+                Ok(())
+            }
         }
     }
 
-    /// Raises the room for new rows to at least this.
+    /// Raises the room for new rows, and for their values, to at least this.
     ///
     /// # Errors
-    /// `NoMemory` where memory was refused.
-    pub fn reserve(&mut self, n: usize) -> Result<(), NoMemory>
+    /// `NoMemory` where memory was refused; the rows are then as before.
+    #[inline(always)]
+    pub fn reserve(&mut self, n: usize, values: usize) -> Result<(), NoMemory>
         ensures room { OnOk result (n ≤ self.new.spare) }
-        ensures more { self.old.spare ≤ self.new.spare }
-        ensures same { self.new ≡ record self.old { spare = self.new.spare } }
+        ensures values { OnOk result (values ≤ self.new.spare_values) }
+        ensures more { (self.old.spare ≤ self.new.spare)
+            × (self.old.spare_values ≤ self.new.spare_values) }
+        ensures same { self.new ≡ record self.old {
+          spare = self.new.spare;
+          spare_values = self.new.spare_values;
+        } }
     {
-        self.held.reserve(n)
+        if n == 0 && values == 0 {
+            return Ok(());
+        }
+        self.reserve_some(n, values)
     }
 
     /// The row of a thing is from now on the one that is told, if one is. It takes no memory.
     pub fn learn(&mut self, thing: Thing, told: &Told)
         requires room { 0 < self.old.spare }
+        requires values { row_length (told_row told.now) ≤ self.old.spare_values }
         ensures { self.new ≡ learnt thing (told_row told.now) self.old }
     {
-        if told.is_told() {
-            self.held.gain(thing, told, 0);
+        if !told.is_told() {
+            return;
+        }
+        let Some(held) = &mut self.held else {
+            unreachable!();
+        };
+        held.gain(thing, told, 0);
+    }
+
+    /// The rows, as entries of count 0 among held things; `None` only where no row is known.
+    pub fn held(&self) -> Option<&ForeignTable>
+        ensures { MatchOption result (self.now.rows ≡ m.empty) (λ t. t.now ≡ as_held self.now) }
+    {
+        match &self.held {
+            Some(held) => Some(&**held),
+            None => None,
         }
     }
 
-    /// The rows, as entries of count 0 among held things.
-    pub fn held(&self) -> &ForeignTable
+    /// The same, or where there is none this table of no entries.
+    pub fn held_or<'a>(&'a self, empty: &'a ForeignTable) -> &'a ForeignTable
+        requires { empty.now ≡ record { spare = 0; spare_values = 0; entries = m.empty } }
         ensures { result.now ≡ as_held self.now }
     {
-        &self.held
+        match &self.held {
+            Some(held) => &**held,
+            None => empty,
+        }
     }
 
     /// Forgets the rows of these things, whose owners and things rise, in one pass.
@@ -78,7 +137,10 @@ impl RowTable {
         requires { BackRises gone.now }
         ensures { self.new.rows ≡ m.retain_keys self.old.rows (λ x. not (goes_back gone.now x)) }
     {
-        self.held.give_back(gone);
+        match &mut self.held {
+            Some(held) => held.give_back(gone),
+            None => {}
+        }
     }
 
     /// The same rows.
@@ -88,14 +150,33 @@ impl RowTable {
     pub fn copy(&self, alloc: Global) -> Result<RowTable, NoMemory>
         ensures { IfOk result (λ copied. copied.rows ≡ self.now.rows) }
     {
-        let held = self.held.copy(alloc)?;
-        Ok(RowTable { held })
+        let held = match &self.held {
+            Some(held) => Some(Box::new(alloc, held.copy(alloc)?)?),
+            None => None,
+        };
+        Ok(RowTable { held, alloc })
+    }
+
+    // Whether no row is known.
+    fn is_empty(&self) -> bool
+        ensures { IsTrue result ↔ (self.now.rows ≡ m.empty) }
+    {
+        match &self.held {
+            Some(held) => held.len() == 0,
+            None => true,
+        }
     }
 
     /// Whether the rows are those of another table.
     pub fn same(&self, other: &RowTable) -> bool
         ensures { IsTrue result ↔ (self.now.rows ≡ other.now.rows) }
     {
-        self.held.same(&other.held)
+        let Some(held) = &self.held else {
+            return other.is_empty();
+        };
+        let Some(others) = &other.held else {
+            return self.is_empty();
+        };
+        held.same(others)
     }
 }

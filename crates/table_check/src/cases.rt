@@ -1,5 +1,9 @@
 // What tables of cases write as numbers, what is made of it, and the calls that may want memory.
 
+ghost use Rattle.std.specs.Prelude.{◌≡◌, ◌≤◌, IsTrue};
+ghost use Rattle.foreign_table.specs.Table.{row_length};
+ghost use Rattle.row_store.specs.Told.{told_row};
+
 use foreign_table::ForeignTable;
 use object_heap::ObjectHeap;
 use orca_names::{ActorName, Args, NoMemory, ObjName, Row, Serial, Thing, Value};
@@ -92,9 +96,9 @@ pub(crate) fn told_of(values: &[Given]) -> Told {
 }
 
 /// The number that a row begins with; one that no table writes where it begins with no number.
-pub(crate) fn number_in(row: Option<&Row>) -> Option<u64> {
-    match row?.get(0) {
-        Some(Value::Num(number)) => Some(number),
+pub(crate) fn number_in(row: Option<&[Value]>) -> Option<u64> {
+    match row?.first() {
+        Some(Value::Num(number)) => Some(*number),
         _ => Some(u64::MAX),
     }
 }
@@ -138,9 +142,27 @@ pub(crate) fn are_loaded(found: &[(Thing, Told)], want: &[Loaded]) -> bool {
     true
 }
 
+// How many values the row has that is told.
+fn told_len(told: &Told) -> usize
+    ensures { result ≡ row_length (told_row told.now) }
+{
+    match told {
+        Told::Here(row) => row.len() as usize,
+        Told::Nothing => 0,
+    }
+}
+
+/// Takes room for one thing and the row that is told. Whether there was memory.
+pub(crate) fn reserves_one(table: &mut ForeignTable, told: &Told) -> bool
+    ensures room { IsTrue result → 1 ≤ table.new.spare }
+    ensures values { IsTrue result → row_length (told_row told.now) ≤ table.new.spare_values }
+{
+    table.reserve(1).is_ok() && table.reserve_values(told_len(told)).is_ok()
+}
+
 /// Gains so much on the thing. Whether there was memory, and no more than a million was held.
 fn gains(table: &mut ForeignTable, thing: &Thing, told: &Told, by: u64) -> bool {
-    if by > 1_000_000 || table.reserve(1).is_err() || table.count(*thing) > 1_000_000 {
+    if by > 1_000_000 || !reserves_one(table, told) || table.count(*thing) > 1_000_000 {
         return false;
     }
     table.gain(*thing, told, by);

@@ -10,7 +10,11 @@ const TWO_ROWS: &[&[Given]] = &[&[Given::Num(7)], &[Given::Num(8)]];
 
 // The number of an object, and its place.
 fn look(heap: &ObjectHeap, n: &ObjName) -> (Option<u64>, Option<usize>) {
-    (number_in(heap.row(*n)), heap.place(*n))
+    let number = match heap.row(*n) {
+        Some(row) => number_in(Some(row.as_slice())),
+        None => None,
+    };
+    (number, heap.place(*n))
 }
 
 fn differs_once_raised(heap: &mut ObjectHeap, before: &ObjectHeap) -> bool {

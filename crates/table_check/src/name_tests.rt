@@ -78,7 +78,7 @@ fn fields_are_copied() -> bool {
 fn rows_are_copied() -> bool {
     let values = two_values();
     let mut row = Row::of(&[Value::Null; 8]);
-    row.copy_from(&Row::from_args(values));
+    row.set_values(values.as_slice());
     row.as_slice() == values.as_slice() && row.len() == 2
 }
 

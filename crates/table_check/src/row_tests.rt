@@ -11,7 +11,7 @@ use std::alloc::Global;
 
 /// Learns that an object of actor 3 has this number. Whether there was memory.
 fn learns(table: &mut RowTable, serial: u64, number: u64) -> bool {
-    if table.reserve(1).is_err() {
+    if table.reserve(1, 1).is_err() {
         return false;
     }
     let told = Told::Here(Row::of(&[Value::Num(number)]));
@@ -21,7 +21,15 @@ fn learns(table: &mut RowTable, serial: u64, number: u64) -> bool {
 
 /// The number that is known of an object of actor 3.
 fn number(table: &RowTable, serial: u64) -> Option<u64> {
-    number_in(table.held().row(object(3, serial)))
+    number_in(table.held()?.row(object(3, serial)))
+}
+
+/// Whether no object of actor 3 is counted.
+fn counts_none(table: &RowTable, serial: u64) -> bool {
+    match table.held() {
+        Some(held) => held.count(Thing::Obj(object(3, serial))) == 0,
+        None => false,
+    }
 }
 
 /// Whether a table knows what it was told last, and counts none of it.
@@ -32,7 +40,7 @@ fn knows_the_last(table: &mut RowTable) -> bool {
         && number(table, 5) == Some(3)
         && number(table, 4) == Some(2)
         && number(table, 6) == None
-        && table.held().count(Thing::Obj(object(3, 5))) == 0
+        && counts_none(table, 5)
 }
 
 fn differs_once_told(table: &mut RowTable, copied: &RowTable) -> bool {

@@ -3,7 +3,7 @@
 ghost use Rattle.std.specs.Prelude.{◌≡◌, ◌∷◌, [], IfOk};
 
 use crate::cases::{
-    Amount, Given, Holding, Loaded, Named, are_amounts, gains_all, thing_of, told_of,
+    Amount, Given, Holding, Loaded, Named, are_amounts, gains_all, reserves_one, thing_of, told_of,
 };
 use foreign_table::ForeignTable;
 use letter_kinds::Load;
@@ -83,7 +83,7 @@ fn take(
     told: &Told,
 ) -> bool {
     let me = heap.owner();
-    if foreign.reserve(1).is_err() {
+    if !reserves_one(foreign, told) {
         return false;
     }
     if thing.owner() == me {

@@ -30,11 +30,13 @@ impl Rows for Shelf {
 
     ghost all = { λ s. map (λ k. record { owner = 0; serial = k }) (range_with_len 0 (length s.rows.items)) };
 
-    fn row_of(&self, n: ObjName) -> Option<&Row> {
-        if n.owner == ActorName(0) {
-            self.rows.get(n.serial.get() as usize)
-        } else {
-            None
+    fn row_of(&self, n: ObjName) -> Option<&[Value]> {
+        if n.owner != ActorName(0) {
+            return None;
+        }
+        match self.rows.get(n.serial.get() as usize) {
+            Some(row) => Some(row.as_slice()),
+            None => None,
         }
     }
 

@@ -67,7 +67,7 @@ module _ (count : ℕ) (heap : Heap) (foreign : Table) where
 
 -- nothing held, and nothing owned
 pub no_table : Table
-no_table = record { spare = 0; entries = m.empty }
+no_table = record { spare = 0; spare_values = 0; entries = m.empty }
 
 pub no_heap : Heap
 no_heap = record { owner = 0; next = 0; spare = 0; rows = m.empty }

@@ -4,6 +4,7 @@ use Rattle.std.specs.Prelude.{is_some}
 use Rattle.std.specs.FinMap as m
 use Rattle.std.proofs.lemmas.Bool.{eqb-true, not-false}
 use Rattle.std.proofs.lemmas.List.{drop_more}
+use Rattle.std.proofs.lemmas.List.Sums.{sum_by-cons}
 use Rattle.orca_names.specs.Names.{owner_of}
 use Rattle.orca_names.specs.declared.names.ObjName.{ObjName}
 use Rattle.orca_names.specs.declared.names.Thing.{Thing}
@@ -11,11 +12,14 @@ use Rattle.orca_names.specs.declared.names.Thing.TheVariants.{Actor, Obj}
 use Rattle.letter_kinds.specs.Counting.{Loaded, set_own, set_held, lower, raise, gain, spend, receive, receive_one, send, send_one}
 use Rattle.letter_kinds.specs.Holdings.{Holdings, Row, own_in, held_in, has_own, row_count, entry_count, entry_row}
 use Rattle.ref_weights.specs.Limit.{count_limit}
+use Rattle.row_store.specs.Told.{as_load, as_loaded, told_row}
+use Rattle.row_store.specs.declared.told.Told.{Told}
 use Rattle.letter_kinds.proofs.Counts.{cond_eq, cond_ne}
 use Rattle.object_heap.specs.Heap.{Heap, Has, counted}
-use Rattle.foreign_table.specs.Table.{Table, count_on, entered}
+use Rattle.foreign_table.specs.Table.{Table, count_on, entered, row_length}
 use Rattle.foreign_table.specs.Table as tables
 use Rattle.known_rows.specs.Holdings.{holdings_of}
+use Rattle.trace_send.specs.Room.{values_of}
 
 module _ (count : ℕ) (heap : Heap) (foreign : Table) where
   pub set-actor : (f : ℕ → ℕ) (a : ℕ) → set_own f (Actor a) (holdings_of count heap foreign) ≡ holdings_of (f count) heap foreign
@@ -93,6 +97,12 @@ send-cons me e load h = refl
 
 pub rest_of : {A : Type 0} (load : List A) (i : ℕ) (e : A) → i < length load → e ≡ get_or load i e → drop i load ≡ e ∷ drop (i + 1) load
 rest_of load i e l is = drop_more load i e l ∙ ap (λ f. f ∷ drop (i + 1) load) (sym is)
+
+-- the values of what is left of a load are those of its first thing and of the others
+pub values_rest : (load : List (Thing × Told)) (i : ℕ) (e : Thing × Told) → drop i load ≡ e ∷ drop (i + 1) load
+    → values_of (as_load (drop i load)) ≡ row_length (told_row e.1) + values_of (as_load (drop (i + 1) load))
+values_rest load i e rest =
+    ap (λ xs. values_of (as_load xs)) rest ∙ sum_by-cons (λ (x : Loaded). row_length x.1) (as_loaded e) (as_load (drop (i + 1) load))
 
 -- ---- tests on owners
 

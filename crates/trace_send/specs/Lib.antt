@@ -1,2 +1,3 @@
 pub mod Can
 pub mod Lacking
+pub mod Room

@@ -74,9 +74,9 @@ impl Rows for OneRow {
 
     ghost all = { λ s. s.name ∷ [] };
 
-    fn row_of(&self, n: ObjName) -> Option<&Row> {
+    fn row_of(&self, n: ObjName) -> Option<&[Value]> {
         if n.owner == self.name.owner && n.serial == self.name.serial {
-            Some(&self.row)
+            Some(self.row.as_slice())
         } else {
             None
         }

@@ -16,7 +16,7 @@ returns-in-Here c =
     let thing : there.0 ≡ c.args.thing =
     ap (λ e. e.0) (c.index_mut.ensures.value ∙ ap (λ xs. get_or xs c.len-at.result there) items ∙ ap (λ (n : ℕ). get_or (old ++ (c.args.thing, Here c.from_args.result) ∷ []) n there) end
     ∙ get_or-append_seam old (c.args.thing, Here c.from_args.result) [] there) in
-    (λ i. set c.push_reserved.new.self.items c.len-at.result (thing i, Here (c.copy_from.ensures i)))
+    (λ i. set c.push_reserved.new.self.items c.len-at.result (thing i, Here (c.set_values.ensures i)))
     ∙ ap (λ xs. set xs c.len-at.result new) items
     ∙ ap (λ (n : ℕ). set (old ++ (c.args.thing, Here c.from_args.result) ∷ []) n new) end
     ∙ set-append_seam old (c.args.thing, Here c.from_args.result) [] new

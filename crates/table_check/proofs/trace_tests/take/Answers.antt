@@ -10,7 +10,7 @@ pub receive_trace-requires-clause-can : goal.receive_trace-requires-clause-can
 receive_trace-requires-clause-can c =
     let me = c.owner-me.result in
     let thing = c.args.thing.now in
-    let foreign = c.reserve.new.self in
+    let foreign = c.reserves_one.new.table in
     let own = c.new-own.result in
     let other : owner_of thing ≢ me = apart (owner_of thing) me
     (ap not (ap (λ a. eqb a me) (sym c.owner.ensures) ∙ sym c.eq.ensures ∙ c.if-eq.false)) in

@@ -3,6 +3,7 @@ use Rattle.row_store.specs.Told.{as_load}
 use Rattle.letter_kinds.specs.Counting.{receive}
 use Rattle.known_rows.specs.Holdings.{holdings_of}
 use Rattle.trace_send.specs.Can.{CanReceive}
+use Rattle.trace_send.specs.Room.{values_of}
 use Rattle.trace_send.proofs.receive.receive_trace.Given as goal
 
 abbrev pub invariant-loop-loaded : goal.invariant-loop-loaded
@@ -12,4 +13,5 @@ invariant-loop-loaded l = record {
   owner : l.heap.owner ≡ l.fn.heap.owner;
   spare : l.heap.spare ≡ l.fn.heap.spare;
   room : l.fn.foreign.spare ≤ l.foreign.spare + l.loaded-index;
+  values : l.fn.foreign.spare_values + values_of (as_load (drop l.loaded-index l.load)) ≤ l.foreign.spare_values + values_of (as_load l.load);
 }

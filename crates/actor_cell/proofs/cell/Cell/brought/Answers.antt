@@ -11,6 +11,6 @@ pub returns : goal.returns
 returns c =
     let s = c.args.self.now in
     let read = c.rows_with-rows.ensures in
-    let same = (λ i. let h = with_made (read.2 i) (holdings_of 0 (read.0 i) ((read.1 ∙ c.held.ensures) i)) in load_of (row_of (read.0 i).owner h) (known_objects (read.0 i).owner h) c.args.args.now)
+    let same = (λ i. let h = with_made (read.2 i) (holdings_of 0 (read.0 i) ((read.1 ∙ c.held_or.ensures) i)) in load_of (row_of (read.0 i).owner h) (known_objects (read.0 i).owner h) c.args.args.now)
     ∙ carried_is s c.args.made.now c.args.args.now in
     subst (λ it. IfOk c.rows_of.result (λ rows. as_load rows ≡ it)) same c.rows_of.ensures.rows

@@ -1,36 +1,48 @@
-use Rattle.std.proofs.Common.{zero-add, ◌≡◌, ◌+◌, ◌-◌, map, set, sym, refl, ap, subst, ◌∙◌, arith}
+use Rattle.std.proofs.Common.{zero-add, ◌≡◌, ℕ, Option, ◌+◌, ◌-◌, length, get_or, map, set, sym, refl, ap, subst, ◌∙◌, arith}
 use Rattle.std.specs.Prelude.{vec_len, vec_capacity}
 use Rattle.std.specs.FinMap as m
 use Rattle.orca_names.specs.Names.{thing_cmp}
+use Rattle.letter_kinds.specs.Holdings.{Row}
 use Rattle.plain_list.specs.Rising.{IsAt, IsGap}
 use Rattle.row_store.specs.Told.{told_row}
-use Rattle.foreign_table.specs.declared.search.Entry.{Entry}
-use Rattle.foreign_table.specs.Entry.{pair_of}
-use Rattle.foreign_table.specs.Table.{DoRise, entries_in, count_on}
-use Rattle.foreign_table.proofs.Entries.{value_at, none_at, count_there, written_held, written_entries, new_held, new_entries, entered_present, entered_absent}
+use Rattle.foreign_table.specs.Entry.{amount_of, as_row, pair_of, row_in}
+use Rattle.foreign_table.specs.Table.{Table, count_on, entered, entries_in, row_length}
+use Rattle.foreign_table.proofs.Entries.{as_row_length, blank, count_there, entered_absent, entered_present, found, itself, key_found, new_entries, none_at, place_within, row_in_length, set_entries}
+use Rattle.foreign_table.proofs.Rows.{stands}
 use Rattle.foreign_table.proofs.table.ForeignTable.gain.Goals as goal
 
-pub place_of-place-requires : goal.place_of-place-requires
-place_of-place-requires c = subst DoRise (sym c.as_slice.ensures.value) c.self.invariant
-
-pub raise-requires : goal.raise-requires
-raise-requires c =
-    let p = subst (λ es. IsAt thing_cmp (map pair_of es) c.args.thing c.in-Ok.i) c.as_slice.ensures.value c.in-Ok.ensures in
-    let here = count_there c.self.inside.held.items c.args.thing c.in-Ok.i c.index_mut.result.now c.index_mut.result.now c.self.invariant p c.index_mut.ensures.value refl in
+pub raise-requires-clause-fits : goal.raise-requires-clause-fits
+raise-requires-clause-fits c d =
+    let s = c.self.inside in
+    let es = s.held.items in
+    let i = c.in-Ok.i in
+    let p = subst (λ es. IsAt thing_cmp (map amount_of es) c.args.thing i) c.as_slice.ensures.value c.in-Ok.ensures in
+    let e = get_or es i d in
+    let here = count_there s.values.items es c.args.thing i e e c.self.invariant.0 p (itself s.values.items es c.self.invariant.0 c.args.thing i p d) refl in
     let seen = ap (λ t. count_on t c.args.thing) c.self.view_is in
-    let fits = c.requires.fits in
-    omega arith
+    omega (arith, c.requires.fits, here, seen)
 
 pub invariant_of-self : goal.invariant_of-self
 invariant_of-self c =
-    let p = subst (λ es. IsAt thing_cmp (map pair_of es) c.args.thing c.in-Ok.i) c.as_slice.ensures.value c.in-Ok.ensures in
-    written_held c.self.inside.held.items c.args.thing c.in-Ok.i c.index_mut.result.now c.raise.new.entry c.self.invariant p c.index_mut.ensures.value (ap (λ e. e.thing) c.raise.ensures)
-
-pub put_entry-requires-clause-room : goal.put_entry-requires-clause-room
-put_entry-requires-clause-room c =
     let s = c.self.inside in
-    let p = subst (λ es. IsGap thing_cmp (map pair_of es) c.args.thing c.in-Err.i) c.as_slice.ensures.value c.in-Err.ensures in
-    let none = sym (ap (λ t. m.get t.entries c.args.thing) c.self.view_is) ∙ none_at s.held.items c.self.invariant c.args.thing c.in-Err.i p in
+    let es = s.held.items in
+    let vs = s.values.items in
+    let x = c.args.thing in
+    let i = c.in-Ok.i in
+    let h = c.self.invariant.0 in
+    let row = c.told_values.result.now in
+    let new = c.raise.new in
+    let p = subst (λ es. IsAt thing_cmp (map amount_of es) x i) c.as_slice.ensures.value c.in-Ok.ensures in
+    let e = get_or es i (blank x) in
+    let v : ℕ × Option Row = (e.count + c.args.by, as_row row) in
+    let pairs = c.raise.ensures.pairs (blank x) ∙ ap (λ k. set (map (pair_of vs) es) i (k, v)) (key_found vs es h x i p (blank x)) in
+    ((set_entries vs new.values.items es new.held.items h x i v p pairs).0, c.raise.ensures.follow)
+
+pub put_entry-requires-clause-place : goal.put_entry-requires-clause-place
+put_entry-requires-clause-place c =
+    let s = c.self.inside in
+    let p = subst (λ es. IsGap thing_cmp (map amount_of es) c.args.thing c.in-Err.i) c.as_slice.ensures.value c.in-Err.ensures in
+    let none = sym (ap (λ t. m.get t.entries c.args.thing) c.self.view_is) ∙ none_at s.values.items s.held.items c.self.invariant.0 c.args.thing c.in-Err.i p in
     let room = c.requires.room none in
     let spare = ap (λ t. t.spare) c.self.view_is in
     omega (arith, s.held.ok)
@@ -38,32 +50,74 @@ put_entry-requires-clause-room c =
 pub invariant_of-self-in-Err : goal.invariant_of-self-in-Err
 invariant_of-self-in-Err c =
     let s = c.self.inside in
-    let p = subst (λ es. IsGap thing_cmp (map pair_of es) c.args.thing c.in-Err.i) c.as_slice.ensures.value c.in-Err.ensures in
-    let y : Entry = record { thing = c.args.thing; count = c.args.by; row = told_row c.args.told.now } in
-    rw c.put_entry.ensures.items (new_held s.held.items c.in-Err.i y c.self.invariant p)
+    let x = c.args.thing in
+    let new = c.put_entry.new in
+    let p = subst (λ es. IsGap thing_cmp (map amount_of es) x c.in-Err.i) c.as_slice.ensures.value c.in-Err.ensures in (
+      (new_entries s.values.items new.values.items s.held.items new.held.items c.self.invariant.0 x c.in-Err.i (c.args.by, as_row c.told_values-in-Err.result.now) p c.put_entry.ensures.pairs).0,
+      c.put_entry.ensures.follow,
+    )
 
 pub returns-in-Ok : goal.returns-in-Ok
 returns-in-Ok c =
     let s = c.self.inside in
-    let p = subst (λ es. IsAt thing_cmp (map pair_of es) c.args.thing c.in-Ok.i) c.as_slice.ensures.value c.in-Ok.ensures in
-    let old = c.index_mut.result.now in
-    let y : Entry = record { thing = old.thing; count = old.count + c.args.by; row = told_row c.args.told.now } in
-    let there = sym (ap (λ t. m.get t.entries c.args.thing) c.self.view_is) ∙ value_at s.held.items c.self.invariant c.args.thing c.in-Ok.i old p c.index_mut.ensures.value in
-    let entries = ap (λ e. entries_in (set s.held.items c.in-Ok.i e)) c.raise.ensures
-    ∙ written_entries s.held.items c.args.thing c.in-Ok.i old y c.self.invariant p c.index_mut.ensures.value refl (λ count. count + c.args.by) refl in
-    (λ j. record { spare = vec_capacity s.held - vec_len s.held; entries = entries j })
-    ∙ ap (λ t. record { spare = t.spare; entries = m.insert t.entries c.args.thing (count_on t c.args.thing + c.args.by, told_row c.args.told.now) }) c.self.view_is
-    ∙ sym (entered_present (λ count. count + c.args.by) (told_row c.args.told.now) c.args.thing c.args.self.now _ there)
+    let es = s.held.items in
+    let vs = s.values.items in
+    let x = c.args.thing in
+    let i = c.in-Ok.i in
+    let h = c.self.invariant.0 in
+    let row = c.told_values.result.now in
+    let told = told_row c.args.told.now in
+    let new = c.raise.new in
+    let p = subst (λ es. IsAt thing_cmp (map amount_of es) x i) c.as_slice.ensures.value c.in-Ok.ensures in
+    let e = get_or es i (blank x) in
+    let v : ℕ × Option Row = (e.count + c.args.by, as_row row) in
+    let pairs = c.raise.ensures.pairs (blank x) ∙ ap (λ k. set (map (pair_of vs) es) i (k, v)) (key_found vs es h x i p (blank x)) in
+    let entries = (set_entries vs new.values.items es new.held.items h x i v p pairs).1 ∙ ap (λ r. m.insert (entries_in vs es) x (e.count + c.args.by, r)) c.told_values.ensures.row in
+    let stood = row_in_length vs e (stands es vs c.self.invariant.1 i e (place_within es x i p) (itself vs es h x i p (blank x))).within in
+    let length_told : row_length told ≡ length row = sym (ap row_length c.told_values.ensures.row) ∙ as_row_length row in
+    let t : Table = record {
+      spare = vec_capacity s.held - vec_len s.held;
+      spare_values = vec_capacity s.values - vec_len s.values;
+      entries = entries_in vs es;
+    } in
+    let u : Table = record {
+      spare = vec_capacity new.held - vec_len new.held;
+      spare_values = vec_capacity new.values - vec_len new.values;
+      entries = entries_in new.values.items new.held.items;
+    } in
+    let spare : u.spare ≡ t.spare = omega (arith, c.raise.ensures.len, c.raise.ensures.capacity) in
+    let values : u.spare_values ≡ t.spare_values + row_length (row_in vs e) - row_length told =
+    omega (arith, c.raise.ensures.values_len (blank x), c.raise.ensures.values_capacity, stood, length_told, s.values.ok, new.values.ok) in
+    entered_present (λ count. count + c.args.by) told x t (e.count, row_in vs e) u (found vs es h x i p (blank x)) spare values entries
+    ∙ ap (entered (λ count. count + c.args.by) x told) c.self.view_is
 
 pub returns-in-Err : goal.returns-in-Err
 returns-in-Err c =
     let s = c.self.inside in
-    let p = subst (λ es. IsGap thing_cmp (map pair_of es) c.args.thing c.in-Err.i) c.as_slice.ensures.value c.in-Err.ensures in
-    let y : Entry = record { thing = c.args.thing; count = c.args.by; row = told_row c.args.told.now } in
-    let none = sym (ap (λ t. m.get t.entries c.args.thing) c.self.view_is) ∙ none_at s.held.items c.self.invariant c.args.thing c.in-Err.i p in
-    let room : vec_capacity c.put_entry.new.held - vec_len c.put_entry.new.held ≡ vec_capacity s.held - vec_len s.held - 1 = omega arith in
-    let entries = ap entries_in c.put_entry.ensures.items ∙ new_entries s.held.items c.in-Err.i y c.self.invariant p
-    ∙ ap (λ n. m.insert (entries_in s.held.items) c.args.thing (n, told_row c.args.told.now)) (sym (zero-add c.args.by)) in
-    (λ j. record { spare = room j; entries = entries j })
-    ∙ ap (λ t. record { spare = t.spare - 1; entries = m.insert t.entries c.args.thing (0 + c.args.by, told_row c.args.told.now) }) c.self.view_is
-    ∙ sym (entered_absent (λ count. count + c.args.by) (told_row c.args.told.now) c.args.thing c.args.self.now none)
+    let es = s.held.items in
+    let vs = s.values.items in
+    let x = c.args.thing in
+    let i = c.in-Err.i in
+    let h = c.self.invariant.0 in
+    let row = c.told_values-in-Err.result.now in
+    let told = told_row c.args.told.now in
+    let new = c.put_entry.new in
+    let p = subst (λ es. IsGap thing_cmp (map amount_of es) x i) c.as_slice.ensures.value c.in-Err.ensures in
+    let entries = (new_entries vs new.values.items es new.held.items h x i (c.args.by, as_row row) p c.put_entry.ensures.pairs).1
+    ∙ (λ j. m.insert (entries_in vs es) x (sym (zero-add c.args.by) j, c.told_values-in-Err.ensures.row j)) in
+    let length_told : row_length told ≡ length row = sym (ap row_length c.told_values-in-Err.ensures.row) ∙ as_row_length row in
+    let t : Table = record {
+      spare = vec_capacity s.held - vec_len s.held;
+      spare_values = vec_capacity s.values - vec_len s.values;
+      entries = entries_in vs es;
+    } in
+    let u : Table = record {
+      spare = vec_capacity new.held - vec_len new.held;
+      spare_values = vec_capacity new.values - vec_len new.values;
+      entries = entries_in new.values.items new.held.items;
+    } in
+    let spare : u.spare ≡ t.spare - 1 = omega (arith, c.put_entry.ensures.len, c.put_entry.ensures.capacity, s.held.ok, new.held.ok) in
+    let values : u.spare_values ≡ t.spare_values - row_length told =
+    omega (arith, c.put_entry.ensures.values_len, c.put_entry.ensures.values_capacity, length_told, s.values.ok, new.values.ok) in
+    entered_absent (λ count. count + c.args.by) told x t u (none_at vs es h x i p) spare values entries
+    ∙ ap (entered (λ count. count + c.args.by) x told) c.self.view_is

@@ -5,7 +5,7 @@ use Rattle.foreign_table.proofs.table.ForeignTable.len.Goals as goal
 
 pub returns-clause-count : goal.returns-clause-count
 returns-clause-count c =
-    let e = len_here c.self.inside.held.items c.self.invariant in
+    let e = len_here c.self.inside.values.items c.self.inside.held.items c.self.invariant.0 in
     let f = ap (λ t. m.len t.entries) c.self.view_is in
     omega (arith, c.self.inside.held.ok.0)
 

@@ -3,27 +3,27 @@ use Rattle.std.specs.Prelude.{is_some}
 use Rattle.std.specs.FinMap as m
 use Rattle.plain_list.specs.Rising.{IsAt, IsGap}
 use Rattle.orca_names.specs.Names.{thing_cmp}
-use Rattle.foreign_table.specs.Entry.{pair_of}
+use Rattle.foreign_table.specs.Entry.{amount_of}
 use Rattle.foreign_table.proofs.Entries.{key_here, none_at, is_there}
 use Rattle.foreign_table.proofs.table.ForeignTable.place.Goals as goal
 
 pub place_of-requires : goal.place_of-requires
-place_of-requires c = rw c.as_slice.ensures.value c.self.invariant
+place_of-requires c = rw c.as_slice.ensures.value c.self.invariant.0
 
 pub returns-in-Ok-clause-key : goal.returns-in-Ok-clause-key
 returns-in-Ok-clause-key c =
     let s = c.self.inside in
-    let p = subst (λ es. IsAt thing_cmp (map pair_of es) c.args.thing.now c.in-Ok.i) c.as_slice.ensures.value c.in-Ok.ensures in
-    ap (λ t. slice_get (m.keys t.entries) c.in-Ok.i) (sym c.self.view_is) ∙ key_here s.held.items c.self.invariant c.args.thing.now c.in-Ok.i p
+    let p = subst (λ es. IsAt thing_cmp (map amount_of es) c.args.thing.now c.in-Ok.i) c.as_slice.ensures.value c.in-Ok.ensures in
+    ap (λ t. slice_get (m.keys t.entries) c.in-Ok.i) (sym c.self.view_is) ∙ key_here c.self.inside.values.items s.held.items c.self.invariant.0 c.args.thing.now c.in-Ok.i p
 
 pub returns-in-Ok-clause-held : goal.returns-in-Ok-clause-held
 returns-in-Ok-clause-held c =
     let s = c.self.inside in
-    let p = subst (λ es. IsAt thing_cmp (map pair_of es) c.args.thing.now c.in-Ok.i) c.as_slice.ensures.value c.in-Ok.ensures in
-    sym (is_there s.held.items c.self.invariant c.args.thing.now c.in-Ok.i p) ∙ ap (λ t. is_some (m.get t.entries c.args.thing.now)) c.self.view_is
+    let p = subst (λ es. IsAt thing_cmp (map amount_of es) c.args.thing.now c.in-Ok.i) c.as_slice.ensures.value c.in-Ok.ensures in
+    sym (is_there c.self.inside.values.items s.held.items c.self.invariant.0 c.args.thing.now c.in-Ok.i p) ∙ ap (λ t. is_some (m.get t.entries c.args.thing.now)) c.self.view_is
 
 pub returns-in-Err-clause-held : goal.returns-in-Err-clause-held
 returns-in-Err-clause-held c =
     let s = c.self.inside in
-    let p = subst (λ es. IsGap thing_cmp (map pair_of es) c.args.thing.now c.in-Err.field-0) c.as_slice.ensures.value c.in-Err.ensures in
-    sym (ap is_some (ap (λ t. m.get t.entries c.args.thing.now) (sym c.self.view_is) ∙ none_at s.held.items c.self.invariant c.args.thing.now c.in-Err.field-0 p))
+    let p = subst (λ es. IsGap thing_cmp (map amount_of es) c.args.thing.now c.in-Err.field-0) c.as_slice.ensures.value c.in-Err.ensures in
+    sym (ap is_some (ap (λ t. m.get t.entries c.args.thing.now) (sym c.self.view_is) ∙ none_at c.self.inside.values.items s.held.items c.self.invariant.0 c.args.thing.now c.in-Err.field-0 p))

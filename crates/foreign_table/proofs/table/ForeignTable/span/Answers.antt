@@ -7,10 +7,10 @@ use Rattle.foreign_table.proofs.Entries.{keys_here}
 use Rattle.foreign_table.proofs.table.ForeignTable.span.Goals as goal
 
 pub span-requires : goal.span-requires
-span-requires c = subst DoRise (sym c.as_slice.ensures.value) c.self.invariant
+span-requires c = subst DoRise (sym c.as_slice.ensures.value) c.self.invariant.0
 
 pub returns : goal.returns
 returns c =
     let s = c.self.inside in
-    let keys = ap (map (λ (e : Entry). e.thing)) c.as_slice.ensures.value ∙ sym (keys_here s.held.items c.self.invariant) ∙ ap (λ t. m.keys t.entries) c.self.view_is in
+    let keys = ap (map (λ (e : Entry). e.thing)) c.as_slice.ensures.value ∙ sym (keys_here c.self.inside.values.items s.held.items c.self.invariant.0) ∙ ap (λ t. m.keys t.entries) c.self.view_is in
     subst (λ things. IsSpan c.args.owner things c.span.result.0 c.span.result.1) keys c.span.ensures

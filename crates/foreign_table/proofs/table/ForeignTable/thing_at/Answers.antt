@@ -5,14 +5,14 @@ use Rattle.foreign_table.proofs.table.ForeignTable.thing_at.Goals as goal
 
 pub index-requires : goal.index-requires
 index-requires c =
-    let e = len_here c.self.inside.held.items c.self.invariant in
+    let e = len_here c.self.inside.values.items c.self.inside.held.items c.self.invariant.0 in
     let f = ap (λ t. m.len t.entries) c.self.view_is in
     omega (arith, c.self.inside.held.ok.0)
 
 pub returns : goal.returns
 returns c =
     let s = c.self.inside in
-    let e = len_here s.held.items c.self.invariant in
+    let e = len_here c.self.inside.values.items s.held.items c.self.invariant.0 in
     let f = ap (λ t. m.len t.entries) c.self.view_is in
     let l : c.args.i < length s.held.items = omega arith in
-    ap (λ t. slice_get (m.keys t.entries) c.args.i) (sym c.self.view_is) ∙ key_there s.held.items c.self.invariant c.args.i c.index.result.now l c.index.ensures
+    ap (λ t. slice_get (m.keys t.entries) c.args.i) (sym c.self.view_is) ∙ key_there c.self.inside.values.items s.held.items c.self.invariant.0 c.args.i c.index.result.now l c.index.ensures

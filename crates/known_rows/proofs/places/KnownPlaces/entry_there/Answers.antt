@@ -41,7 +41,8 @@ returns-then-at-self-3-clause-thing c =
 pub returns-then-at-self-3-clause-row : goal.returns-then-at-self-3-clause-row
 returns-then-at-self-3-clause-row c =
     let s = c.args.self.now in
-    rowed_own s.rows.heap.now s.rows.foreign.now c.at-n.result.0 (c.args.at - s.first - 1) c.at-n.result.1.now c.at-n.result.2 c.at-n.ensures.owner c.at-n.ensures.entry
+    ap Some c.as_slice.ensures.value
+    ∙ rowed_own s.rows.heap.now s.rows.foreign.now c.at-n.result.0 (c.args.at - s.first - 1) c.at-n.result.1.now c.at-n.result.2 c.at-n.ensures.owner c.at-n.ensures.entry
 
 pub overflow_add-at : goal.overflow_add-at
 overflow_add-at c =

@@ -32,7 +32,7 @@ pub returns-then-i-self-clause-row : goal.returns-then-i-self-clause-row
 returns-then-i-self-clause-row c = λ _.
     let s = c.args.self.now in
     let i = c.args.at - s.first in
-    sym (row_of_made s.known.rows.heap.now s.known.rows.foreign.now s.made.now s.later c.made_thing.result i c.if-i-self.true c.made_thing.ensures
+    ap Some c.as_slice.ensures.value ∙ sym (row_of_made s.known.rows.heap.now s.known.rows.foreign.now s.made.now s.later c.made_thing.result i c.if-i-self.true c.made_thing.ensures
     ∙ ap Some (get_or_default s.made.now i [] c.index-self-i.result c.if-i-self.true))
 
 pub returns-clause-thing : goal.returns-clause-thing
