@@ -9,7 +9,7 @@ use Rattle.orca_names.specs.declared.names.Value.{Value}
 use Rattle.orca_names.specs.declared.trace.Trace.TheVariants.{Deep, Roots}
 use Rattle.reach_walk.specs.Marks.{load_of, marks_of}
 use Rattle.reach_walk.specs.Reach.{thing_row}
-use Rattle.row_store.specs.Told.{as_load}
+use Rattle.letter_kinds.specs.Load.{as_load}
 use Rattle.row_store.specs.declared.told.Told.{Told}
 use Rattle.letter_kinds.specs.Letters.{App}
 use Rattle.letter_kinds.specs.Counting.{Amount, Loaded, is_lacking, lacking_of, to_mint}

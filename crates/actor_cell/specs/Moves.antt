@@ -3,7 +3,7 @@ use Rattle.std.specs.Prelude.{ℕ, List}
 use Rattle.orca_names.specs.declared.names.Value.{Value}
 use Rattle.letter_kinds.specs.Letters.{Letter, App}
 use Rattle.letter_kinds.specs.Counting.{Amount, Loaded}
-use Rattle.row_store.specs.Told.{as_load}
+use Rattle.letter_kinds.specs.Load.{as_load}
 use Rattle.actor_cell.specs.declared.turning.Doing.{Doing}
 use Rattle.actor_cell.specs.declared.turning.Doing.TheVariants as doing
 use Rattle.actor_cell.specs.declared.turning.Turned.{Turned}

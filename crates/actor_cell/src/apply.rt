@@ -3,7 +3,7 @@
 ghost use Rattle.std.specs.Prelude.{◌≡◌, ◌+◌, ◌<◌, ◌≤◌, ◌^◌, IsSome, OnOk, Some, length};
 ghost use Rattle.turn_rules.specs.declared.act.Frame.{Frame as frame_of_rules};
 ghost use Rattle.letter_kinds.specs.Counting.{send};
-ghost use Rattle.row_store.specs.Told.{as_load};
+ghost use Rattle.letter_kinds.specs.Load.{as_load};
 ghost use Rattle.object_heap.specs.Heap.{with_new};
 ghost use Rattle.trace_send.specs.Can.{CanSend};
 ghost use Rattle.actor_cell.specs.Cells.{IsCellOf, IsSame, as_cell};

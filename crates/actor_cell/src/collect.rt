@@ -4,6 +4,7 @@ ghost use Rattle.std.specs.Prelude.{◌≡◌, IfOk};
 ghost use Rattle.orca_names.specs.declared.trace.Trace.{Trace as tracing};
 ghost use Rattle.orca_names.specs.declared.trace.Trace.TheVariants.{Deep as deep, Roots as roots};
 ghost use Rattle.actor_cell.specs.Cells.{as_cell};
+ghost use Rattle.row_store.specs.Words.{SameWords};
 ghost use Rattle.actor_cell.specs.Sweeps.{IsSweep, KnowsOthersOnly, sweep_of, swept};
 
 use crate::cell::Cell;
@@ -12,15 +13,17 @@ use local_sweep::{apply, plan};
 use orca_names::{NoMemory, Trace};
 use plain_list::Listed;
 use root_trace::{plan_roots, unused_rows};
+use row_store::RowWords;
 use std::alloc::Global;
 
 impl Cell {
     // What it frees and gives back with deep tracing.
-    fn find_deep(&self, alloc: Global) -> Result<Sweep, NoMemory>
+    fn find_deep<W: RowWords>(&self, alloc: Global, words: &mut W) -> Result<Sweep, NoMemory>
         requires { KnowsOthersOnly self.now }
-        ensures { IfOk result (λ found. found ≡ sweep_of deep self.now) }
+        ensures sweep { IfOk result (λ found. found ≡ sweep_of deep self.now) }
+        ensures words { SameWords W.known W.places W.beside words.old words.new }
     {
-        let plan = plan(alloc, &self.fields, &self.heap, &self.foreign)?;
+        let plan = plan(alloc, &self.fields, &self.heap, &self.foreign, words)?;
         Ok(Sweep {
             plan,
             unused: Listed::new(alloc),
@@ -28,12 +31,13 @@ impl Cell {
     }
 
     // What it frees, gives back and forgets with root-only tracing.
-    fn find_roots(&self, alloc: Global) -> Result<Sweep, NoMemory>
+    fn find_roots<W: RowWords>(&self, alloc: Global, words: &mut W) -> Result<Sweep, NoMemory>
         requires { KnowsOthersOnly self.now }
-        ensures { IfOk result (λ found. found ≡ sweep_of roots self.now) }
+        ensures sweep { IfOk result (λ found. found ≡ sweep_of roots self.now) }
+        ensures words { SameWords W.known W.places W.beside words.old words.new }
     {
-        let plan = plan_roots(alloc, &self.fields, &self.heap, &self.foreign)?;
-        let unused = unused_rows(alloc, &self.fields, &self.heap, &self.known)?;
+        let plan = plan_roots(alloc, &self.fields, &self.heap, &self.foreign, words)?;
+        let unused = unused_rows(alloc, &self.fields, &self.heap, &self.known, words)?;
         Ok(Sweep { plan, unused })
     }
 
@@ -41,13 +45,19 @@ impl Cell {
     ///
     /// # Errors
     /// `NoMemory` where memory was refused.
-    pub fn find_collect(&self, alloc: Global, trace: Trace) -> Result<Sweep, NoMemory>
+    pub fn find_collect<W: RowWords>(
+        &self,
+        alloc: Global,
+        trace: Trace,
+        words: &mut W,
+    ) -> Result<Sweep, NoMemory>
         requires { KnowsOthersOnly self.now }
-        ensures { IfOk result (λ found. found ≡ sweep_of trace self.now) }
+        ensures sweep { IfOk result (λ found. found ≡ sweep_of trace self.now) }
+        ensures words { SameWords W.known W.places W.beside words.old words.new }
     {
         match trace {
-            Trace::Deep => self.find_deep(alloc),
-            Trace::Roots => self.find_roots(alloc),
+            Trace::Deep => self.find_deep(alloc, words),
+            Trace::Roots => self.find_roots(alloc, words),
         }
     }
 

@@ -2,6 +2,7 @@
 
 ghost use Rattle.std.specs.Prelude.{◌+◌, ◌^◌, ◌<◌, IfOk, IsSome, OnOk};
 ghost use Rattle.orca_names.specs.declared.options.Options.{Options as choices};
+ghost use Rattle.row_store.specs.Words.{SameWords};
 ghost use Rattle.actor_cell.specs.Founds.{IsFound};
 ghost use Rattle.actor_cell.specs.Sweeps.{KnowsOthersOnly};
 
@@ -10,6 +11,7 @@ use crate::sweeping::Sweep;
 use crate::turning::Turned;
 use behaviour_check::Checked;
 use orca_names::{NoMemory, Options, Trace};
+use row_store::RowWords;
 use std::alloc::Global;
 use turn_step::Turn;
 
@@ -29,21 +31,23 @@ impl Cell {
     ///
     /// # Errors
     /// `NoMemory` where memory was refused.
-    pub fn found(
+    pub fn found<W: RowWords>(
         &self,
         alloc: Global,
         code: &Checked,
         weight: u32,
         trace: Trace,
+        words: &mut W,
     ) -> Result<Found, NoMemory>
         requires serials { self.now.heap.next + 1024 < 2 ^ 64 }
         requires others { KnowsOthersOnly self.now }
-        ensures { let options : choices = record { weight = weight; trace = trace } in
+        ensures found { let options : choices = record { weight = weight; trace = trace } in
             IfOk result (IsFound options code.now self.now) }
+        ensures words { SameWords W.known W.places W.beside words.old words.new }
     {
         let options = Options { weight, trace };
         let mut found = Found::Nothing;
-        self.find_in(alloc, code, options, &mut found)?;
+        self.find_in(alloc, code, options, &mut found, words)?;
         Ok(found)
     }
 
@@ -51,22 +55,24 @@ impl Cell {
     ///
     /// # Errors
     /// `NoMemory` where memory was refused; what the place holds then is left open.
-    pub fn find_in(
+    pub fn find_in<W: RowWords>(
         &self,
         alloc: Global,
         code: &Checked,
         options: Options,
         found: &mut Found,
+        words: &mut W,
     ) -> Result<(), NoMemory>
         requires serials { self.now.heap.next + 1024 < 2 ^ 64 }
         requires others { KnowsOthersOnly self.now }
-        ensures { OnOk result (IsFound options code.now self.now found.new) }
+        ensures found { OnOk result (IsFound options code.now self.now found.new) }
+        ensures words { SameWords W.known W.places W.beside words.old words.new }
     {
         if self.frame.is_some() {
-            return self.find_turn(alloc, code, options, found);
+            return self.find_turn(alloc, code, options, found, words);
         }
         *found = if self.dirty {
-            let sweep = self.find_collect(alloc, options.trace)?;
+            let sweep = self.find_collect(alloc, options.trace, words)?;
             Found::Collects { sweep }
         } else {
             Found::Nothing
@@ -75,23 +81,25 @@ impl Cell {
     }
 
     // Evaluates its turn into the place.
-    fn find_turn(
+    fn find_turn<W: RowWords>(
         &self,
         alloc: Global,
         code: &Checked,
         options: Options,
         found: &mut Found,
+        words: &mut W,
     ) -> Result<(), NoMemory>
         requires running { IsSome self.now.frame }
         requires serials { self.now.heap.next + 1024 < 2 ^ 64 }
-        ensures { OnOk result (IsFound options code.now self.now found.new) }
+        ensures found { OnOk result (IsFound options code.now self.now found.new) }
+        ensures words { SameWords W.known W.places W.beside words.old words.new }
     {
         if let Found::Goes { turn, turned } = found {
-            return self.find_go(alloc, code, options, turn, turned);
+            return self.find_go(alloc, code, options, turn, turned, words);
         }
         let mut turn = Turn::new(alloc);
         let mut turned = Turned::new(alloc);
-        self.find_go(alloc, code, options, &mut turn, &mut turned)?;
+        self.find_go(alloc, code, options, &mut turn, &mut turned, words)?;
         *found = Found::Goes { turn, turned };
         Ok(())
     }

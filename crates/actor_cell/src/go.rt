@@ -4,6 +4,7 @@ ghost use Rattle.std.specs.Prelude.{◌≡◌, ◌+◌, ◌<◌, ◌≤◌, ◌^
 ghost use Rattle.orca_names.specs.Names.{owner_of};
 ghost use Rattle.orca_names.specs.declared.trace.Trace.TheVariants.{Deep as deep, Roots as roots};
 ghost use Rattle.machine_rules.specs.Go.{needed, to_need, turn_of_cell};
+ghost use Rattle.row_store.specs.Words.{SameWords};
 ghost use Rattle.turn_step.specs.Turns.{HaltsAt, act_of};
 ghost use Rattle.actor_cell.specs.Awaiting.{Awaits};
 ghost use Rattle.actor_cell.specs.Cells.{as_cell};
@@ -11,7 +12,7 @@ ghost use Rattle.actor_cell.specs.Finding.{Finds, FindsLetter, FindsTurn};
 ghost use Rattle.actor_cell.specs.Goes.{things_from, FitsRegister};
 ghost use Rattle.actor_cell.specs.Moves.{act_in, Mint as mint};
 ghost use Rattle.letter_kinds.specs.Holdings.{with_made};
-ghost use Rattle.row_store.specs.Told.{as_load};
+ghost use Rattle.letter_kinds.specs.Load.{as_load};
 
 use crate::cell::Cell;
 use crate::turning::{Awaited, Doing, Turned};
@@ -20,10 +21,11 @@ use behaviour_code::Name;
 use foreign_table::{ForeignTable, Holding};
 use known_rows::KnownRows;
 use letter_kinds::{Amounts, Load};
-use orca_names::{ActorName, Args, NoMemory, Options, Reading, Row, Thing, Trace};
+use orca_names::{ActorName, Args, NoMemory, Options, Row, Thing, Trace};
 use plain_list::Listed;
-use reach_walk::ThingList;
+use reach_walk::{ThingList, WithWords};
 use root_trace::missing;
+use row_store::RowWords;
 use std::alloc::Global;
 use trace_send::{lacking, lacks_any};
 use turn_rules::Frame;
@@ -82,11 +84,17 @@ impl Sending<'_> {
     // Finds its load and rows, by the things found that it loads, or what is minted first: it is awaited
     // then.
     #[inline(always)]
-    fn find_found(&self, alloc: Global, found: &mut Turned) -> Result<(), NoMemory>
+    fn find_found<W: RowWords>(
+        &self,
+        alloc: Global,
+        found: &mut Turned,
+        words: &mut W,
+    ) -> Result<(), NoMemory>
         requires { let h = with_made self.now.made.now (as_cell self.now.cell.now).holdings in
             let me = self.now.cell.now.heap.owner in
             found.old.seen ≡ things_from self.now.options.trace me h found.old.args }
-        ensures { OnOk result (FindsLetter self.now found.old found.new) }
+        ensures letter { OnOk result (FindsLetter self.now found.old found.new) }
+        ensures words { SameWords W.known W.places W.beside words.old words.new }
     {
         let cell = self.cell;
         let trace = self.options.trace;
@@ -104,8 +112,8 @@ impl Sending<'_> {
                     to: self.to,
                     behaviour: self.behaviour,
                 };
-                found.load = cell.load(alloc, trace, self.made, found.seen.as_slice())?;
-                found.rows = cell.carried(alloc, trace, self.made, &found.args)?;
+                found.load = cell.load(alloc, trace, self.made, found.seen.as_slice(), words)?;
+                found.rows = cell.carried(alloc, trace, self.made, &found.args, words)?;
                 Ok(())
             }
         }
@@ -113,23 +121,35 @@ impl Sending<'_> {
 
     // Finds this by a list of the things that it loads.
     #[inline(always)]
-    fn find_few(&self, alloc: Global, found: &mut Turned) -> Result<(), NoMemory>
-        ensures { OnOk result (FindsLetter self.now found.old found.new) }
+    fn find_few<W: RowWords>(
+        &self,
+        alloc: Global,
+        found: &mut Turned,
+        words: &mut W,
+    ) -> Result<(), NoMemory>
+        ensures letter { OnOk result (FindsLetter self.now found.old found.new) }
+        ensures words { SameWords W.known W.places W.beside words.old words.new }
     {
         let cell = self.cell;
         let trace = self.options.trace;
-        cell.find_things(alloc, trace, self.made, &found.args, &mut found.seen)?;
-        self.find_found(alloc, found)
+        cell.find_things(alloc, trace, self.made, &found.args, &mut found.seen, words)?;
+        self.find_found(alloc, found, words)
     }
 
     // Finds this by places, where it is traced deeply; `false` where they do not serve.
-    fn find_many(&self, alloc: Global, found: &mut Turned) -> Result<bool, NoMemory>
+    fn find_many<W: RowWords>(
+        &self,
+        alloc: Global,
+        found: &mut Turned,
+        words: &mut W,
+    ) -> Result<bool, NoMemory>
         requires { self.now.options.trace ≡ deep }
         ensures done { IfOk result (λ done. IsTrue done → FindsLetter self.now found.old found.new) }
         ensures left { IfOk result (λ done. done ≡ false → found.new ≡ found.old) }
+        ensures words { SameWords W.known W.places W.beside words.old words.new }
     {
         let cell = self.cell;
-        let Some(load) = cell.load_of_many(alloc, self.made, &found.args)? else {
+        let Some(load) = cell.load_of_many(alloc, self.made, &found.args, words)? else {
             return Ok(false);
         };
         let me = cell.heap.owner();
@@ -154,33 +174,41 @@ impl Sending<'_> {
     }
 
     // Finds its load and rows, with the arguments found, or what is minted first.
-    fn find(&self, alloc: Global, found: &mut Turned) -> Result<(), NoMemory>
-        ensures { OnOk result (FindsLetter self.now found.old found.new) }
+    fn find<W: RowWords>(
+        &self,
+        alloc: Global,
+        found: &mut Turned,
+        words: &mut W,
+    ) -> Result<(), NoMemory>
+        ensures letter { OnOk result (FindsLetter self.now found.old found.new) }
+        ensures words { SameWords W.known W.places W.beside words.old words.new }
     {
         let cell = self.cell;
         if cell.reaches_many(self.options.trace, self.made, &found.args) {
-            let done = self.find_many(alloc, found)?;
+            let done = self.find_many(alloc, found, words)?;
             if done {
                 return Ok(());
             }
         }
-        self.find_few(alloc, found)
+        self.find_few(alloc, found, words)
     }
 }
 
 impl Cell {
     // What it does by a deed of its turn.
-    fn move_of(
+    fn move_of<W: RowWords>(
         &self,
         alloc: Global,
         options: Options,
         turn: &Turn,
         deed: &Deed<'_>,
         found: &mut Turned,
+        words: &mut W,
     ) -> Result<(), NoMemory>
         requires { FitsRegister (act_of deed.now turn.now) }
-        ensures { let does = act_of deed.now turn.now in
+        ensures finds { let does = act_of deed.now turn.now in
             OnOk result (Finds options self.now turn.now.made does found.old found.new) }
+        ensures words { SameWords W.known W.places W.beside words.old words.new }
     {
         match *deed {
             Deed::Post {
@@ -197,7 +225,7 @@ impl Cell {
                     to,
                     behaviour,
                 };
-                sending.find(alloc, found)
+                sending.find(alloc, found, words)
             }
             Deed::New { kind, into } => {
                 let register = into as u8;
@@ -239,11 +267,12 @@ impl Cell {
     // Runs its frame up to where its turn halts, by deep tracing: it finds the rows of others' objects with
     // what it holds.
     #[inline(always)]
-    fn run_deep<'p>(
+    fn run_deep<'p, W: RowWords>(
         &self,
         code: &'p Checked,
         frame: &Frame,
         turn: &mut Turn,
+        words: &mut W,
     ) -> Result<Halt<'p>, NoMemory>
         requires { self.now.heap.next + 1024 < 2 ^ 64 }
         ensures halt { let c = as_cell self.now in
@@ -251,6 +280,7 @@ impl Cell {
             let stop = turn_of_cell deep code.now self.now.heap.owner c frame.now in
             IfOk result (λ halt. HaltsAt first stop halt turn.new) }
         ensures few { OnOk result (length turn.new.made ≤ 1024) }
+        ensures words { SameWords W.known W.places W.beside words.old words.new }
     {
         let me = self.heap.owner();
         let base = self.heap.made();
@@ -259,7 +289,7 @@ impl Cell {
             heap: &self.heap,
             foreign: &self.foreign,
         };
-        let mut rows = Reading { rows: &rows };
+        let mut rows = WithWords::of(&rows, words);
         match segment_at(&setting, frame, &self.fields, &mut rows, turn) {
             Ok(stop) => Ok(Halt::Stops(stop)),
             Err(e) => Err(e),
@@ -268,12 +298,13 @@ impl Cell {
 
     // Runs its frame by root-only tracing: letters brought the rows of others' objects.
     #[inline(never)]
-    fn run_roots<'p>(
+    fn run_roots<'p, W: RowWords>(
         &self,
         alloc: Global,
         code: &'p Checked,
         frame: &Frame,
         turn: &mut Turn,
+        words: &mut W,
     ) -> Result<Halt<'p>, NoMemory>
         requires { self.now.heap.next + 1024 < 2 ^ 64 }
         ensures halt { let c = as_cell self.now in
@@ -281,6 +312,7 @@ impl Cell {
             let stop = turn_of_cell roots code.now self.now.heap.owner c frame.now in
             IfOk result (λ halt. HaltsAt first stop halt turn.new) }
         ensures few { OnOk result (length turn.new.made ≤ 1024) }
+        ensures words { SameWords W.known W.places W.beside words.old words.new }
     {
         let me = self.heap.owner();
         let base = self.heap.made();
@@ -291,7 +323,7 @@ impl Cell {
             heap: &self.heap,
             foreign,
         };
-        let mut rows = Reading { rows: &rows };
+        let mut rows = WithWords::of(&rows, words);
         let held = Holding {
             me,
             foreign: &self.foreign,
@@ -301,13 +333,14 @@ impl Cell {
 
     // Runs its frame up to where its turn halts.
     #[inline(always)]
-    fn run_turn<'p>(
+    fn run_turn<'p, W: RowWords>(
         &self,
         alloc: Global,
         code: &'p Checked,
         trace: Trace,
         frame: &Frame,
         turn: &mut Turn,
+        words: &mut W,
     ) -> Result<Halt<'p>, NoMemory>
         requires { self.now.heap.next + 1024 < 2 ^ 64 }
         ensures halt { let c = as_cell self.now in
@@ -315,10 +348,11 @@ impl Cell {
             let stop = turn_of_cell trace code.now self.now.heap.owner c frame.now in
             IfOk result (λ halt. HaltsAt first stop halt turn.new) }
         ensures few { OnOk result (length turn.new.made ≤ 1024) }
+        ensures words { SameWords W.known W.places W.beside words.old words.new }
     {
         match trace {
-            Trace::Deep => self.run_deep(code, frame, turn),
-            Trace::Roots => self.run_roots(alloc, code, frame, turn),
+            Trace::Deep => self.run_deep(code, frame, turn, words),
+            Trace::Roots => self.run_roots(alloc, code, frame, turn, words),
         }
     }
 
@@ -327,18 +361,20 @@ impl Cell {
     ///
     /// # Errors
     /// `NoMemory` where memory was refused; what `turn` and `found` hold then is left open.
-    pub fn find_go(
+    pub fn find_go<W: RowWords>(
         &self,
         alloc: Global,
         code: &Checked,
         options: Options,
         turn: &mut Turn,
         found: &mut Turned,
+        words: &mut W,
     ) -> Result<(), NoMemory>
         requires running { IsSome self.now.frame }
         requires serials { self.now.heap.next + 1024 < 2 ^ 64 }
         ensures found { OnOk result (FindsTurn options code.now self.now turn.new found.new) }
         ensures few { OnOk result (length turn.new.made ≤ 1024) }
+        ensures words { SameWords W.known W.places W.beside words.old words.new }
     {
         found.forget_letter();
         let Some(frame) = self.frame.get() else {
@@ -352,10 +388,10 @@ impl Cell {
             found.doing = Doing::Rest;
             return Ok(());
         }
-        match self.run_turn(alloc, code, options.trace, frame, turn) {
+        match self.run_turn(alloc, code, options.trace, frame, turn, words) {
             Ok(halt) => match halt {
                 Halt::Stops(stop) => {
-                    self.move_of(alloc, options, turn, &stop.deed, found)?;
+                    self.move_of(alloc, options, turn, &stop.deed, found, words)?;
                     found.place = stop.place;
                     Ok(())
                 }
@@ -374,7 +410,7 @@ impl Cell {
     ///
     /// # Errors
     /// `NoMemory` where memory was refused; what `found` holds then is left open.
-    pub fn find_again(
+    pub fn find_again<W: RowWords>(
         &self,
         alloc: Global,
         code: &Checked,
@@ -382,10 +418,12 @@ impl Cell {
         turn: &Turn,
         letter: Awaited,
         found: &mut Turned,
+        words: &mut W,
     ) -> Result<(), NoMemory>
         requires { let me = self.now.heap.owner in
             Awaits options.trace code.now me (as_cell self.now) turn.now found.old letter }
-        ensures { OnOk result (FindsTurn options code.now self.now turn.now found.new) }
+        ensures found { OnOk result (FindsTurn options code.now self.now turn.now found.new) }
+        ensures words { SameWords W.known W.places W.beside words.old words.new }
     {
         let _code = code;
         found.forget_letter();
@@ -396,6 +434,6 @@ impl Cell {
             to: letter.to,
             behaviour: letter.behaviour,
         };
-        sending.find_found(alloc, found)
+        sending.find_found(alloc, found, words)
     }
 }

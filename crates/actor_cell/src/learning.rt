@@ -2,7 +2,8 @@
 
 ghost use Rattle.std.specs.Prelude.{◌≡◌, ◌+◌, ◌<◌, ◌≤◌, [], ◌∷◌, length};
 ghost use Rattle.foreign_table.specs.Table.{row_length};
-ghost use Rattle.row_store.specs.Told.{as_load, as_loaded, told_row};
+ghost use Rattle.letter_kinds.specs.Load.{as_load, as_loaded};
+ghost use Rattle.row_store.specs.Told.{row_here};
 ghost use Rattle.machine_rules.specs.Take.{learn};
 ghost use Rattle.trace_send.specs.Room.{values_of};
 
@@ -14,10 +15,10 @@ use row_table::RowTable;
 // The row of another's object is known.
 fn learn_one(known: &mut RowTable, me: ActorName, brought: &(Thing, Told))
     requires room { 0 < known.old.spare }
-    requires values { row_length (told_row brought.now.1) ≤ known.old.spare_values }
+    requires values { row_length (row_here brought.now.1) ≤ known.old.spare_values }
     ensures rows { known.new.rows ≡ learn me (as_loaded brought.now ∷ []) known.old.rows }
     ensures room { known.old.spare ≤ known.new.spare + 1 }
-    ensures values { let its = row_length (told_row brought.now.1) in
+    ensures values { let its = row_length (row_here brought.now.1) in
         known.old.spare_values ≤ known.new.spare_values + its }
 {
     if brought.0.owner() != me {

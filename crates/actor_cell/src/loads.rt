@@ -5,8 +5,9 @@ ghost use Rattle.orca_names.specs.declared.names.Value.{Value as value};
 ghost use Rattle.orca_names.specs.declared.trace.Trace.TheVariants.{Deep as deep, Roots as roots};
 ghost use Rattle.reach_walk.specs.Reach.{thing_row};
 ghost use Rattle.letter_kinds.specs.Holdings.{row_of, with_made};
-ghost use Rattle.row_store.specs.Told.{as_load};
+ghost use Rattle.letter_kinds.specs.Load.{as_load};
 ghost use Rattle.machine_rules.specs.Go.{load_from, rows_from};
+ghost use Rattle.row_store.specs.Words.{SameWords};
 ghost use Rattle.actor_cell.specs.Cells.{as_cell};
 ghost use Rattle.actor_cell.specs.Goes.{having_made, things_from};
 
@@ -14,10 +15,11 @@ use crate::cell::Cell;
 use foreign_table::ForeignTable;
 use known_rows::{KnownRows, TurnPlaces, TurnRows, may_reach_many};
 use letter_kinds::Load;
-use orca_names::{Args, NoMemory, Reading, Row, Thing, Trace};
+use orca_names::{Args, NoMemory, Row, Thing, Trace};
 use plain_list::Listed;
-use reach_walk::{ThingList, find_flat, find_loaded, load_by_place, with_rows};
+use reach_walk::{ThingList, WithWords, find_flat, find_loaded, load_by_place, with_rows};
 use root_trace::{find_loaded_roots, rows_of, without_rows};
+use row_store::RowWords;
 use std::alloc::Global;
 
 impl Cell {
@@ -36,21 +38,23 @@ impl Cell {
     }
 
     // Finds the things that these arguments reach, where the turn made these rows.
-    fn find_reached(
+    fn find_reached<W: RowWords>(
         &self,
         alloc: Global,
         made: &[Row],
         args: &Args,
         things: &mut ThingList,
+        words: &mut W,
     ) -> Result<(), NoMemory>
-        ensures { let h = with_made made.now (as_cell self.now).holdings in
+        ensures things { let h = with_made made.now (as_cell self.now).holdings in
             OnOk result (things.new ≡ things_from deep self.now.heap.owner h args.now) }
+        ensures words { SameWords W.known W.places W.beside words.old words.new }
     {
         let rows = self.rows_with(&self.foreign, made);
-        if find_flat(args, &rows, things)? {
+        if find_flat(args, &rows, things, words)? {
             return Ok(());
         }
-        find_loaded(alloc, args, &mut Reading { rows: &rows }, things)
+        find_loaded(alloc, args, &mut WithWords::of(&rows, words), things)
     }
 
     // Whether the arguments may reach so much that places are worth while.
@@ -66,66 +70,79 @@ impl Cell {
     // The load of a letter with these arguments, by places, where the turn made these rows; `None`
     // where places do not serve.
     #[inline(never)]
-    pub(crate) fn load_of_many(
+    pub(crate) fn load_of_many<W: RowWords>(
         &self,
         alloc: Global,
         made: &[Row],
         args: &Args,
+        words: &mut W,
     ) -> Result<Option<Load>, NoMemory>
-        ensures { let h = with_made made.now (as_cell self.now).holdings in
+        ensures load { let h = with_made made.now (as_cell self.now).holdings in
             IfOk result (λ found. IfSome found (λ load.
             as_load load ≡ load_from deep self.now.heap.owner h args.now)) }
+        ensures words { SameWords W.known W.places W.beside words.old words.new }
     {
         let rows = self.rows_with(&self.foreign, made);
         match TurnPlaces::of(rows) {
-            Some(places) => load_by_place(alloc, args, &places),
+            Some(places) => load_by_place(alloc, args, &places, words),
             None => Ok(None),
         }
     }
 
     // These things with their rows, where the turn made these.
     #[inline(always)]
-    fn rowed(&self, alloc: Global, made: &[Row], things: &[Thing]) -> Result<Load, NoMemory>
-        ensures { let rows = row_of self.now.heap.owner (with_made made.now (as_cell self.now).holdings) in
+    fn rowed<W: RowWords>(
+        &self,
+        alloc: Global,
+        made: &[Row],
+        things: &[Thing],
+        words: &mut W,
+    ) -> Result<Load, NoMemory>
+        ensures load { let rows = row_of self.now.heap.owner (with_made made.now (as_cell self.now).holdings) in
             IfOk result (λ load. as_load load ≡ map (λ x. (x, thing_row rows x)) things.now) }
+        ensures words { SameWords W.known W.places W.beside words.old words.new }
     {
         let rows = self.rows_with(&self.foreign, made);
-        with_rows(alloc, things, &mut Reading { rows: &rows })
+        with_rows(alloc, things, &mut WithWords::of(&rows, words))
     }
 
     // Finds the things that a letter with these arguments loads, where the turn made these rows.
-    pub(crate) fn find_things(
+    pub(crate) fn find_things<W: RowWords>(
         &self,
         alloc: Global,
         trace: Trace,
         made: &[Row],
         args: &Args,
         things: &mut ThingList,
+        words: &mut W,
     ) -> Result<(), NoMemory>
-        ensures { let h = with_made made.now (as_cell self.now).holdings in
+        ensures things { let h = with_made made.now (as_cell self.now).holdings in
             OnOk result (things.new ≡ things_from trace self.now.heap.owner h args.now) }
+        ensures words { SameWords W.known W.places W.beside words.old words.new }
     {
         match trace {
-            Trace::Deep => self.find_reached(alloc, made, args, things),
+            Trace::Deep => self.find_reached(alloc, made, args, things, words),
             Trace::Roots => find_loaded_roots(alloc, args, things),
         }
     }
 
     // What a letter loads whose arguments lead to these things, where the turn made these rows.
     #[inline(always)]
-    pub(crate) fn load(
+    pub(crate) fn load<W: RowWords>(
         &self,
         alloc: Global,
         trace: Trace,
         made: &[Row],
         things: &[Thing],
+        words: &mut W,
     ) -> Result<Load, NoMemory>
-        ensures { let h = with_made made.now (as_cell self.now).holdings in
+        ensures load { let h = with_made made.now (as_cell self.now).holdings in
             (args : List value) → things.now ≡ things_from trace self.now.heap.owner h args
             → IfOk result (λ load. as_load load ≡ load_from trace self.now.heap.owner h args) }
+        ensures words { SameWords W.known W.places W.beside words.old words.new }
     {
         match trace {
-            Trace::Deep => self.rowed(alloc, made, things),
+            Trace::Deep => self.rowed(alloc, made, things, words),
             Trace::Roots => without_rows(alloc, things),
         }
     }
@@ -133,30 +150,39 @@ impl Cell {
     // The rows that these arguments reach, its own and those that letters brought, where the turn
     // made these.
     #[inline(never)]
-    fn brought<'a>(&'a self, alloc: Global, made: &'a [Row], args: &Args) -> Result<Load, NoMemory>
-        ensures { let c = having_made made.now (as_cell self.now) in
+    fn brought<'a, W: RowWords>(
+        &'a self,
+        alloc: Global,
+        made: &'a [Row],
+        args: &Args,
+        words: &mut W,
+    ) -> Result<Load, NoMemory>
+        ensures rows { let c = having_made made.now (as_cell self.now) in
             IfOk result (λ rows. as_load rows ≡ rows_from roots self.now.heap.owner c args.now) }
+        ensures words { SameWords W.known W.places W.beside words.old words.new }
     {
         let nothing = ForeignTable::new(alloc);
         let rows = self.rows_with(self.known.held_or(&nothing), made);
-        rows_of(alloc, args, &mut Reading { rows: &rows })
+        rows_of(alloc, args, &mut WithWords::of(&rows, words))
     }
 
     // The rows that a letter with these arguments carries, where the turn made these.
     #[inline(always)]
-    pub(crate) fn carried(
+    pub(crate) fn carried<W: RowWords>(
         &self,
         alloc: Global,
         trace: Trace,
         made: &[Row],
         args: &Args,
+        words: &mut W,
     ) -> Result<Load, NoMemory>
-        ensures { let c = having_made made.now (as_cell self.now) in
+        ensures rows { let c = having_made made.now (as_cell self.now) in
             IfOk result (λ rows. as_load rows ≡ rows_from trace self.now.heap.owner c args.now) }
+        ensures words { SameWords W.known W.places W.beside words.old words.new }
     {
         match trace {
             Trace::Deep => Ok(Listed::new(alloc)),
-            Trace::Roots => self.brought(alloc, made, args),
+            Trace::Roots => self.brought(alloc, made, args, words),
         }
     }
 }

@@ -1,7 +1,7 @@
 // Room for what letters bring.
 
 ghost use Rattle.std.specs.Prelude.{◌≡◌, ◌≤◌, OnOk, length};
-ghost use Rattle.row_store.specs.Told.{as_load};
+ghost use Rattle.letter_kinds.specs.Load.{as_load};
 ghost use Rattle.trace_send.specs.Room.{values_of};
 
 use foreign_table::ForeignTable;

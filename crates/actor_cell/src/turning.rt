@@ -2,7 +2,7 @@
 
 ghost use Rattle.std.specs.Prelude.{◌≡◌, IsSome, None, OnOk};
 ghost use Rattle.letter_kinds.specs.Letters.{App as app, as_letter};
-ghost use Rattle.row_store.specs.Told.{as_load};
+ghost use Rattle.letter_kinds.specs.Load.{as_load};
 ghost use Rattle.actor_cell.specs.Awaiting.{awaited_by};
 
 use behaviour_code::Name;

@@ -7,6 +7,7 @@ ghost use Rattle.letter_kinds.specs.Letters.{as_letter};
 ghost use Rattle.machine_rules.specs.Collect.{is_marked};
 ghost use Rattle.machine_rules.specs.Take.{cell_after, note_of, notes_after};
 ghost use Rattle.orca_names.specs.declared.options.Options.{Options as choices};
+ghost use Rattle.row_store.specs.Words.{SameWords};
 ghost use Rattle.actor_cell.specs.Cells.{as_cell};
 ghost use Rattle.actor_cell.specs.Goes.{CanGo, gone_of, out_of};
 ghost use Rattle.actor_cell.specs.Moves.{act_in};
@@ -21,6 +22,7 @@ use behaviour_check::Checked;
 use letter_kinds::{Letter, Note};
 use orca_names::{ActorName, NoMemory, Options, Trace, Value};
 use plain_list::Listed;
+use row_store::RowWords;
 use std::alloc::{AllocError, Global};
 use turn_rules::SpareFrame;
 use turn_step::Turn;
@@ -121,12 +123,13 @@ impl Cell {
     ///
     /// # Errors
     /// `NoMemory` where memory was refused; the cell is then as it was.
-    pub fn go(
+    pub fn go<W: RowWords>(
         &mut self,
         alloc: Global,
         code: &Checked,
         weight: u32,
         trace: Trace,
+        words: &mut W,
     ) -> Result<Out, NoMemory>
         requires can { let options : choices = record { weight = weight; trace = trace } in
             CanGo options code.now self.old.heap.owner (as_cell self.old) }
@@ -138,11 +141,12 @@ impl Cell {
         ensures room { IfOk result (λ out. IsSome out.made → 0 < self.new.foreign.spare) }
         ensures same { OnErr result (as_cell self.new ≡ as_cell self.old) }
         ensures owner { self.new.heap.owner ≡ self.old.heap.owner }
+        ensures words { SameWords W.known W.places W.beside words.old words.new }
     {
         let options = Options { weight, trace };
         let mut turn = Turn::new(alloc);
         let mut found = Turned::new(alloc);
-        self.find_go(alloc, code, options, &mut turn, &mut found)?;
+        self.find_go(alloc, code, options, &mut turn, &mut found, words)?;
         let room = letter_room(alloc, 1)?;
         found.reserve_letter(alloc)?;
         self.reserve_go(&turn, &found)?;
@@ -155,7 +159,12 @@ impl Cell {
     ///
     /// # Errors
     /// `NoMemory` where memory was refused; the cell is then as it was.
-    pub fn collect(&mut self, alloc: Global, trace: Trace) -> Result<Out, NoMemory>
+    pub fn collect<W: RowWords>(
+        &mut self,
+        alloc: Global,
+        trace: Trace,
+        words: &mut W,
+    ) -> Result<Out, NoMemory>
         requires { KnowsOthersOnly self.old }
         ensures cell { let me = self.old.heap.owner in
             OnOk result (as_cell self.new ≡ swept trace me (as_cell self.old)) }
@@ -164,8 +173,9 @@ impl Cell {
             ≡ returning (by_owner (given_back marked (as_cell self.old).holdings))) }
         ensures same { OnErr result (as_cell self.new ≡ as_cell self.old) }
         ensures owner { self.new.heap.owner ≡ self.old.heap.owner }
+        ensures words { SameWords W.known W.places W.beside words.old words.new }
     {
-        let found = self.find_collect(alloc, trace)?;
+        let found = self.find_collect(alloc, trace, words)?;
         let room = letter_room(alloc, found.plan.back.len())?;
         self.apply_collect(&found);
         Ok(Out {

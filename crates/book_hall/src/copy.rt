@@ -13,6 +13,7 @@ use actor_cell::{Cell, Found};
 use behaviour_check::Checked;
 use event_rule::Event;
 use orca_names::{NoMemory, Options};
+use row_store::NoBlocks;
 use std::alloc::Global;
 use std::fmt;
 use thiserror::Error;
@@ -122,7 +123,9 @@ impl<'a> CellCopy<'a> {
         match self.event {
             Event::Go(_) | Event::Collect(_) => {
                 let Options { weight, trace } = self.options;
-                let found = self.cell.found(alloc, self.code, weight, trace)?;
+                let found = self
+                    .cell
+                    .found(alloc, self.code, weight, trace, &mut NoBlocks::default())?;
                 Ok(Some(found))
             }
             _ => Ok(None),

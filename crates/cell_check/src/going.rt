@@ -6,7 +6,7 @@ ghost use Rattle.actor_cell.specs.Goes.{CanMove};
 ghost use Rattle.actor_cell.specs.Moves.{act_in};
 ghost use Rattle.actor_cell.specs.Takes.{CanTake};
 ghost use Rattle.letter_kinds.specs.Letters.{as_letter};
-ghost use Rattle.row_store.specs.Told.{as_load, as_loaded};
+ghost use Rattle.letter_kinds.specs.Load.{as_load, as_loaded};
 ghost use Rattle.cell_check.specs.Spare.{AreLow, AreSpare, IsLow, IsSpare};
 ghost use Rattle.turn_rules.specs.Segment as segments;
 
@@ -17,7 +17,7 @@ use foreign_table::ForeignTable;
 use known_rows::KnownPlaces;
 use letter_kinds::{Amounts, Letter, Load};
 use orca_names::{Options, Thing, Trace};
-use row_store::Told;
+use row_store::{NoBlocks, Told};
 use std::alloc::Global;
 use std::test::Fail;
 use turn_step::Turn;
@@ -124,11 +124,11 @@ fn goes_over(
         weight: WEIGHT,
         trace: Trace::Deep,
     };
-    cell.find_go(alloc, code, options, turn, found)?;
+    cell.find_go(alloc, code, options, turn, found, &mut NoBlocks::default())?;
     if !allows(cell, found) {
         return Err(Fail::from("its counts do not allow what it would do"));
     }
-    Ok(cell.go(alloc, code, WEIGHT, Trace::Deep)?)
+    Ok(cell.go(alloc, code, WEIGHT, Trace::Deep, &mut NoBlocks::default())?)
 }
 
 /// The same, in a turn of its own.
@@ -147,5 +147,5 @@ pub(crate) fn collects(alloc: Global, cell: &mut Cell) -> Result<Out, Fail> {
     if !KnownPlaces::of(&cell.heap, cell.known.held_or(&empty)).holds_others_only() {
         return Err(Fail::from("it knows things of its own"));
     }
-    Ok(cell.collect(alloc, Trace::Deep)?)
+    Ok(cell.collect(alloc, Trace::Deep, &mut NoBlocks::default())?)
 }

@@ -11,7 +11,7 @@ use Rattle.orca_names.specs.Names.{is_thing, times_among}
 use Rattle.orca_names.specs.declared.names.Thing.{Thing}
 use Rattle.orca_names.specs.declared.tally.Sums.{Sums}
 use Rattle.orca_names.specs.declared.names.Value.{Value}
-use Rattle.row_store.specs.Told.{as_load, as_loaded}
+use Rattle.letter_kinds.specs.Load.{as_load, as_loaded}
 use Rattle.row_store.specs.declared.told.Told.{Told}
 use Rattle.letter_kinds.specs.Counting.{Amount, Loaded}
 use Rattle.letter_kinds.specs.Sums.{amount_of, dec_of, inc_of, load_count, times_loaded}

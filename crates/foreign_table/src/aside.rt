@@ -6,7 +6,7 @@ ghost use Rattle.std.specs.List.{insert, remove, sum_by};
 ghost use Rattle.std.specs.Option.{option_copied};
 ghost use Rattle.foreign_table.specs.declared.search.Entry.{Entry as entry};
 ghost use Rattle.foreign_table.specs.Entry.{FollowFrom, as_row, lined_up, pair_of, row_in};
-ghost use Rattle.row_store.specs.Told.{told_row};
+ghost use Rattle.row_store.specs.Told.{row_here};
 ghost use Rattle.ref_weights.specs.Limit.{count_limit};
 
 use crate::search::Entry;
@@ -14,15 +14,15 @@ use orca_names::{Thing, Value};
 use ref_weights::Held;
 use row_store::Told;
 
-/// The values of the row that is told; of none, no values.
+/// The values of the row that is told and at hand; of none, no values.
 #[inline(always)]
 pub(crate) fn told_values(told: &Told) -> &[Value]
-    ensures row { as_row result.now ≡ told_row told.now }
+    ensures row { as_row result.now ≡ row_here told.now }
     ensures room { length result.now ≤ 8 }
 {
     match told {
         Told::Here(row) => row.as_slice(),
-        Told::Nothing => &[],
+        Told::Nothing | Told::In(_) => &[],
     }
 }
 

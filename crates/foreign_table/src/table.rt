@@ -11,7 +11,7 @@ ghost use Rattle.foreign_table.specs.Entry.{amount_of, pair_of};
 ghost use Rattle.foreign_table.specs.Span.{IsSpan};
 ghost use Rattle.foreign_table.specs.Table.{DoRise, Table, count_on, count_unheld, counted, entered, entries_in, known_row, on_actors, row_length, without};
 ghost use Rattle.letter_kinds.specs.Holdings.{entry_row};
-ghost use Rattle.row_store.specs.Told.{told_row};
+ghost use Rattle.row_store.specs.Told.{row_here};
 ghost use Rattle.ref_weights.specs.Limit.{count_limit};
 
 use crate::aside::{put_entry, raise, row_of, take_entry, told_values};
@@ -215,9 +215,9 @@ impl ForeignTable {
     #[inline(always)]
     pub fn gain(&mut self, thing: Thing, told: &Told, by: u64)
         requires room { m.get self.old.entries thing ≡ None → 0 < self.old.spare }
-        requires values { row_length (told_row told.now) ≤ self.old.spare_values }
+        requires values { row_length (row_here told.now) ≤ self.old.spare_values }
         requires fits { count_on self.old thing + by < count_limit }
-        ensures { self.new ≡ entered (λ count. count + by) thing (told_row told.now) self.old }
+        ensures { self.new ≡ entered (λ count. count + by) thing (row_here told.now) self.old }
     {
         match place_of(self.held.as_slice(), thing) {
             Ok(i) => raise(&mut self.held, &mut self.values, i, by, told_values(told)),

@@ -1,15 +1,16 @@
 // Places of what an actor knows.
 
-ghost use Rattle.std.specs.Prelude.{◌≡◌, ◌≢◌, ◌↔◌, ◌∷◌, ◌++◌, ◌+◌, ◌-◌, ◌^◌, ◌<◌, ◌≤◌, ℕ, Some, None, length, slice_get, IfSome, IsTrue};
+ghost use Rattle.std.specs.Prelude.{◌≡◌, ◌≢◌, ◌↔◌, ◌∷◌, ◌++◌, ◌+◌, ◌-◌, ◌^◌, ◌<◌, ℕ, Option, Some, None, length, slice_get, IsTrue};
 ghost use Rattle.std.specs.FinMap as m;
 ghost use Rattle.foreign_table.specs.Span.{IsSpan};
 ghost use Rattle.foreign_table.specs.Table.{known_row};
 ghost use Rattle.known_rows.specs.Known.{row_known};
 ghost use Rattle.known_rows.specs.Places.{HoldsOthersOnly, held_below, own_things, place_in, placed_things};
 ghost use Rattle.orca_names.specs.declared.names.ObjName.{ObjName as object_name};
-ghost use Rattle.std.specs.Option.{option_copied};
 ghost use Rattle.reach_walk.specs.Dense.{StandTogether};
-ghost use Rattle.reach_walk.specs.Reach.{thing_row};
+ghost use Rattle.row_store.specs.Lent.{IsLent};
+ghost use Rattle.row_store.specs.Told.{thing_block, thing_row};
+ghost use Rattle.letter_kinds.specs.Holdings.{Row as any_row};
 ghost use Rattle.orca_names.specs.Names.{owner_of};
 ghost use Rattle.orca_names.specs.declared.names.Thing.{Thing as thing};
 ghost use Rattle.orca_names.specs.declared.names.Thing.TheVariants.{Actor as actor, Obj as object};
@@ -17,8 +18,9 @@ ghost use Rattle.orca_names.specs.declared.names.Thing.TheVariants.{Actor as act
 use crate::known::KnownRows;
 use foreign_table::ForeignTable;
 use object_heap::ObjectHeap;
-use orca_names::{ObjName, Reading, Row, RowReader, Thing, Value};
-use reach_walk::{Dense, PlacedRows, Places};
+use orca_names::{ObjName, Thing};
+use reach_walk::{BlockRows, Dense, PlacedRows, Places};
+use row_store::Lent;
 
 /// The rows that an actor has in both of its tables, with places: first what it holds of actors
 /// with lower numbers, then the actor itself, its own objects, and what it holds of actors with
@@ -133,42 +135,37 @@ impl<'a> KnownPlaces<'a> {
 
 // A thing, and its row where it is an object: an actor has none.
 #[inline(always)]
-fn of_object<'a>(thing: Thing, row: Option<&'a [Value]>) -> (Thing, Option<&'a [Value]>)
-    requires { IfSome row (λ values. (1 ≤ length values.now) × (length values.now ≤ 8)) }
+fn of_object<'a>(thing: Thing, row: Lent<'a>) -> (Thing, Lent<'a>)
     ensures thing { result.0 ≡ thing }
-    ensures row { option_copied result.1 ≡ thing_row (λ _. option_copied row.entry) thing }
-    ensures room { IfSome result.1 (λ values.
-        (1 ≤ length values.now) × (length values.now ≤ 8)) }
+    ensures row { (its : Option any_row) (block : Option ℕ) → IsLent its block row.entry
+        → IsLent (thing_row (λ _. its) thing) (thing_block (λ _. block) thing) result.1 }
 {
     match thing {
-        Thing::Actor(_) => (thing, None),
+        Thing::Actor(_) => (thing, Lent::Nothing),
         Thing::Obj(_) => (thing, row),
     }
 }
 
 // The thing at a place among the held things, and its row where it is an object.
 #[inline(always)]
-fn held_entry(foreign: &ForeignTable, j: usize) -> (Thing, Option<&[Value]>)
+fn held_entry(foreign: &ForeignTable, j: usize) -> (Thing, Lent<'_>)
     requires { j < m.len foreign.now.entries }
     ensures thing { slice_get (m.keys foreign.now.entries) j ≡ Some result.0 }
-    ensures row { option_copied result.1 ≡ thing_row (known_row foreign.now) result.0 }
-    ensures room { IfSome result.1 (λ values.
-        (1 ≤ length values.now) × (length values.now ≤ 8)) }
+    ensures row { IsLent (thing_row (known_row foreign.now) result.0)
+        (thing_block (λ _. None) result.0) result.1 }
 {
     let (thing, _, row) = foreign.at(j);
-    of_object(thing, row)
+    of_object(thing, Lent::at_hand(row))
 }
 
 impl KnownPlaces<'_> {
     // The thing at a place, and its row where it is an object.
     #[inline(always)]
-    fn entry_there(&self, at: usize) -> (Thing, Option<&[Value]>)
+    fn entry_there(&self, at: usize) -> (Thing, Lent<'_>)
         requires { at < length (placed_things self.now.rows.heap.now self.now.rows.foreign.now) }
         ensures thing { place_in self.now.rows.heap.now self.now.rows.foreign.now result.0 ≡ Some at }
         ensures row { let rows = row_known self.now.rows.heap.now self.now.rows.foreign.now in
-            option_copied result.1 ≡ thing_row rows result.0 }
-        ensures room { IfSome result.1 (λ values.
-            (1 ≤ length values.now) × (length values.now ≤ 8)) }
+            IsLent (thing_row rows result.0) (thing_block (λ _. None) result.0) result.1 }
     {
         let foreign = self.rows.foreign;
         if at < self.first {
@@ -176,37 +173,25 @@ impl KnownPlaces<'_> {
         }
         let heap = self.rows.heap;
         if at == self.first {
-            return (Thing::Actor(heap.owner()), None);
+            return (Thing::Actor(heap.owner()), Lent::Nothing);
         }
         if at < self.above {
             let (n, row, _) = heap.at(at - self.first - 1);
-            return (Thing::Obj(n), Some(row.as_slice()));
+            return (Thing::Obj(n), Lent::Here(row.as_slice()));
         }
         held_entry(foreign, at - self.above + self.end)
     }
 }
 
-impl RowReader for KnownPlaces<'_> {
-    ghost use Rattle.std.specs.Prelude.{⊤};
+impl BlockRows for KnownPlaces<'_> {
+    ghost use Rattle.std.specs.Prelude.{None};
     ghost use Rattle.known_rows.specs.Known.{row_known, names_known, row_known-within};
-
-    ghost Beside = { ⊤ };
-
-    ghost beside = { λ _. tt };
 
     ghost rows = { λ s. row_known s.rows.heap.now s.rows.foreign.now };
 
+    ghost blocks = { λ _ _. None };
+
     ghost all = { λ s. names_known s.rows.heap.now s.rows.foreign.now };
-
-    fn read_into(&mut self, n: ObjName, row: &mut Row) -> bool {
-        let mut reading = Reading { rows: &self.rows };
-        reading.read_into(n, row)
-    }
-
-    fn read_place(&mut self, n: ObjName, i: u64) -> Option<Value> {
-        let mut reading = Reading { rows: &self.rows };
-        reading.read_place(n, i)
-    }
 
     ghost within = { λ s n row e. row_known-within s.rows.heap.now s.rows.foreign.now n row e };
 }
@@ -215,17 +200,17 @@ impl PlacedRows for KnownPlaces<'_> {
     ghost use Rattle.known_rows.specs.OnlyPlaced.{rows_have_places};
 
     #[inline(always)]
-    fn entry_at(&self, at: usize) -> (Thing, Option<&[Value]>) {
+    fn entry_at(&self, at: usize) -> (Thing, Lent<'_>) {
         if at < self.count {
             self.entry_there(at)
         } else {
-            (Thing::Actor(self.rows.heap.owner()), None)
+            (Thing::Actor(self.rows.heap.owner()), Lent::Nothing)
         }
     }
 
     fn dense(&self) -> Dense<'_>
         ensures together { let heap = self.now.rows.heap.now in let foreign = self.now.rows.foreign.now in
-            StandTogether (place_in heap foreign) (row_known heap foreign) result }
+            StandTogether (place_in heap foreign) (row_known heap foreign) (λ _. None) result }
         ensures owner { result.owner ≡ self.now.rows.heap.now.owner }
         ensures end { let heap = self.now.rows.heap.now in
             let below = held_below heap self.now.rows.foreign.now in

@@ -9,8 +9,9 @@ use crate::known::KnownRows;
 use crate::places::KnownPlaces;
 use crate::turn_rows::TurnRows;
 use object_heap::ObjectHeap;
-use orca_names::{Args, ObjName, Reading, Row, RowReader, Rows, Serial, Thing, Value};
-use reach_walk::{Dense, PlacedRows, Places};
+use orca_names::{Args, ObjName, Row, Serial, Thing, Value};
+use reach_walk::{BlockRows, Dense, LentRows, PlacedRows, Places};
+use row_store::Lent;
 
 // Among so few things places are not worth while.
 const FEW: usize = 8;
@@ -69,14 +70,15 @@ fn names_object(values: &[Value]) -> bool {
     false
 }
 
-// Whether the value leads to an object whose row names another.
+// Whether the value leads to an object whose row names another, as one in a block is guessed to do.
 fn leads_on(rows: &TurnRows<'_>, value: &Value) -> bool {
     let Value::Obj(n) = value else {
         return false;
     };
     match rows.row_of(*n) {
-        Some(row) => names_object(row),
-        None => false,
+        Lent::Nothing => false,
+        Lent::Here(values) => names_object(values),
+        Lent::In(_) => true,
     }
 }
 
@@ -154,18 +156,16 @@ impl<'a> TurnPlaces<'a> {
     }
 }
 
-impl RowReader for TurnPlaces<'_> {
-    ghost use Rattle.std.specs.Prelude.{⊤};
+impl BlockRows for TurnPlaces<'_> {
     ghost use Rattle.letter_kinds.specs.Holdings.{known_objects, row_of, with_made};
     ghost use Rattle.known_rows.specs.Holdings.{holdings_of};
+    ghost use Rattle.std.specs.Prelude.{None};
     ghost use Rattle.known_rows.specs.InTurn.{row_is_known};
-
-    ghost Beside = { ⊤ };
-
-    ghost beside = { λ _. tt };
 
     ghost rows = { λ s. row_of s.known.rows.heap.now.owner
         (with_made s.made.now (holdings_of 0 s.known.rows.heap.now s.known.rows.foreign.now)) };
+
+    ghost blocks = { λ _ _. None };
 
     ghost all = { λ s. known_objects s.known.rows.heap.now.owner
         (with_made s.made.now (holdings_of 0 s.known.rows.heap.now s.known.rows.foreign.now)) };
@@ -173,28 +173,19 @@ impl RowReader for TurnPlaces<'_> {
     ghost within = { λ s n row e. row_is_known s.known.rows.heap.now.owner
         (with_made s.made.now (holdings_of 0 s.known.rows.heap.now s.known.rows.foreign.now))
         n row e };
-
-    fn read_into(&mut self, n: ObjName, row: &mut Row) -> bool {
-        let rows = TurnRows {
-            known: self.known.rows,
-            made: self.made,
-        };
-        let mut reading = Reading { rows: &rows };
-        reading.read_into(n, row)
-    }
 }
 
 impl PlacedRows for TurnPlaces<'_> {
     ghost use Rattle.known_rows.specs.HavePlaces.{rows_have_places};
 
     #[inline(always)]
-    fn entry_at(&self, at: usize) -> (Thing, Option<&[Value]>) {
+    fn entry_at(&self, at: usize) -> (Thing, Lent<'_>) {
         if at < self.first {
             return self.known.entry_at(at);
         }
         let i = at - self.first;
         if i < self.made.len() {
-            return (self.made_thing(i), Some(self.made[i].as_slice()));
+            return (self.made_thing(i), Lent::Here(self.made[i].as_slice()));
         }
         self.known.entry_at(at - self.made.len())
     }

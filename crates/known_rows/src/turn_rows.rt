@@ -5,9 +5,12 @@ ghost use Rattle.std.specs.Option.{option_copied};
 ghost use Rattle.known_rows.specs.InTurn.{made_in_turn};
 
 use crate::known::KnownRows;
-use orca_names::{ActorName, ObjName, Row, Rows, Value};
+use orca_names::{ActorName, ObjName, Row};
+use reach_walk::{BlockRows, LentRows};
+use row_store::Lent;
 
-/// The rows that an actor has where a turn stops: those of before, and those that the turn made.
+/// The rows that an actor has where a turn stops: those of before, and those that the turn made,
+/// which are at hand.
 #[derive(Clone, Copy)]
 pub struct TurnRows<'a> {
     pub known: KnownRows<'a>,
@@ -28,7 +31,8 @@ fn made_row<'a>(made: &'a [Row], me: ActorName, first: u64, n: &ObjName) -> Opti
     made.get((serial - first) as usize)
 }
 
-impl Rows for TurnRows<'_> {
+impl BlockRows for TurnRows<'_> {
+    ghost use Rattle.std.specs.Prelude.{None};
     ghost use Rattle.letter_kinds.specs.Holdings.{known_objects, row_of, with_made};
     ghost use Rattle.known_rows.specs.Holdings.{holdings_of};
     ghost use Rattle.known_rows.specs.InTurn.{row_is_known};
@@ -36,17 +40,21 @@ impl Rows for TurnRows<'_> {
     ghost rows = { λ s. row_of s.known.heap.now.owner
         (with_made s.made.now (holdings_of 0 s.known.heap.now s.known.foreign.now)) };
 
+    ghost blocks = { λ _ _. None };
+
     ghost all = { λ s. known_objects s.known.heap.now.owner
         (with_made s.made.now (holdings_of 0 s.known.heap.now s.known.foreign.now)) };
 
     ghost within = { λ s n row e. row_is_known s.known.heap.now.owner
         (with_made s.made.now (holdings_of 0 s.known.heap.now s.known.foreign.now)) n row e };
+}
 
+impl LentRows for TurnRows<'_> {
     #[inline(always)]
-    fn row_of(&self, n: ObjName) -> Option<&[Value]> {
+    fn row_of(&self, n: ObjName) -> Lent<'_> {
         let heap = self.known.heap;
         match made_row(self.made, heap.owner(), heap.made(), &n) {
-            Some(row) => Some(row.as_slice()),
+            Some(row) => Lent::Here(row.as_slice()),
             None => self.known.row_of(n),
         }
     }

@@ -1,3 +1,4 @@
+pub mod Load
 pub mod Letters
 pub mod Closed
 pub mod Counting

@@ -8,6 +8,7 @@ ghost use Rattle.letter_kinds.specs.Holdings.{Row};
 ghost use Rattle.known_rows.specs.Places.{HoldsOthersOnly, placed_things};
 ghost use Rattle.local_sweep.specs.Marked.{is_marked, is_reached};
 ghost use Rattle.local_sweep.specs.Plan.{back_of, free_of, is_freed, object_named, plan_of};
+ghost use Rattle.row_store.specs.Words.{SameWords};
 
 use crate::amounts::push_amount;
 use crate::kept::{ByPlace, Kept};
@@ -20,6 +21,7 @@ use orca_names::{ActorName, Fields, NoMemory, ObjName};
 use plain_list::Listed;
 use reach_walk::{lead_no_further, mark_bits};
 use ready_set::PlaceSet;
+use row_store::RowWords;
 use std::alloc::Global;
 
 // Among so few things what is kept is found soonest by the names in the fields.
@@ -141,23 +143,25 @@ fn are_few(heap: &ObjectHeap, foreign: &ForeignTable) -> bool {
 ///
 /// # Errors
 /// `NoMemory` where memory was refused.
-pub fn plan(
+pub fn plan<W: RowWords>(
     alloc: Global,
     fields: &Fields,
     heap: &ObjectHeap,
     foreign: &ForeignTable,
+    words: &mut W,
 ) -> Result<SweepPlan, NoMemory>
     requires { HoldsOthersOnly heap.now foreign.now }
-    ensures { let marked = is_reached fields.now.values heap.now foreign.now in
+    ensures plan { let marked = is_reached fields.now.values heap.now foreign.now in
         IfOk result (λ plan. plan ≡ plan_of marked heap.now foreign.now) }
+    ensures words { SameWords W.known W.places W.beside words.old words.new }
 {
     let values = fields.values.as_slice();
     let rows = KnownRows { heap, foreign };
-    if are_few(heap, foreign) && lead_no_further(values, &rows) {
+    if are_few(heap, foreign) && lead_no_further(values, &rows, words) {
         return plan_kept(alloc, &ByName { values, rows });
     }
     let known = KnownPlaces::of(heap, foreign);
-    let marks = mark_bits(alloc, values, &known)?;
+    let marks = mark_bits(alloc, values, &known, words)?;
     plan_kept(
         alloc,
         &ByPlace {

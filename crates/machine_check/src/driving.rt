@@ -8,6 +8,7 @@ use behaviour_check::Checked;
 use event_rule::Event;
 use orca_core::{Orca, StepFault};
 use orca_names::{ActorName, Trace};
+use row_store::NoBlocks;
 use std::alloc::Global;
 
 /// The weight of the machines.
@@ -41,7 +42,13 @@ fn installs(
     let Some(cell) = machine.cell(a) else {
         return Err(StepFault::NotEnabled);
     };
-    match cell.found(alloc, drive.code, WEIGHT, drive.trace) {
+    match cell.found(
+        alloc,
+        drive.code,
+        WEIGHT,
+        drive.trace,
+        &mut NoBlocks::default(),
+    ) {
         Ok(found) => machine.install(alloc, event, found),
         Err(_) => Err(StepFault::NoMemory),
     }

@@ -14,7 +14,7 @@ use Rattle.letter_kinds.specs.Holdings.{Row, row_count}
 use Rattle.orca_names.specs.declared.names.Thing.TheVariants.{Obj}
 use Rattle.plain_list.specs.Rising.{IsAt, IsGap}
 use Rattle.plain_list.proofs.Rising.{same_rise}
-use Rattle.row_store.specs.Told.{told_row}
+use Rattle.row_store.specs.Told.{row_here}
 use Rattle.row_store.specs.declared.told.Told.TheVariants.{Here}
 use Rattle.object_heap.specs.declared.search.Key.{Key}
 use Rattle.object_heap.specs.Entry.{AreKept, HasKey, Item, Own, joined, key_of, key_pair, object_of, pair_of, serial_in}
@@ -190,10 +190,10 @@ module _ (owner next : ℕ) (keys : List Key) (objects : List Item) (s : AreStor
       count_there next (joined keys objects) q i its.0 s.own (at_own q i p) its.1 ∙ ap (λ x. x.count) (sym its.2)
 
   -- the row at a place is that of the entry
-  pub row_is : (q i : ℕ) (x : Item) → IsAt nat_cmp (map key_pair keys) q i → x ≡ get_or objects i x → told_row x.1 ≡ option_map (λ e. e.0) (m.get (rows_in (joined keys objects)) q)
+  pub row_is : (q i : ℕ) (x : Item) → IsAt nat_cmp (map key_pair keys) q i → x ≡ get_or objects i x → row_here x.1 ≡ option_map (λ e. e.0) (m.get (rows_in (joined keys objects)) q)
   row_is q i x p is =
       let its = object_at owner keys objects (joined keys objects) s.kept i (at_within q i p) in
-      ap (λ y. told_row y.1) (its.3 x is) ∙ ap (option_map (λ e. e.0)) (sym (value_at next (joined keys objects) s.own q i its.0 (at_own q i p) its.1))
+      ap (λ y. row_here y.1) (its.3 x is) ∙ ap (option_map (λ e. e.0)) (sym (value_at next (joined keys objects) s.own q i its.0 (at_own q i p) its.1))
 
   -- the object that goes
   module _ (q i : ℕ) (p : IsAt nat_cmp (map key_pair keys) q i) where
@@ -204,8 +204,8 @@ module _ (owner next : ℕ) (keys : List Key) (objects : List Item) (s : AreStor
     less_map = ap rows_in (kept_joined owner _ _ (remove (joined keys objects) i) (kept_less owner keys objects (joined keys objects) s.kept i))
         ∙ less_rows next (joined keys objects) q i s.own (at_own q i p)
 
-  pub row_some : (q i : ℕ) (x : Item) → IsAt nat_cmp (map key_pair keys) q i → x ≡ get_or objects i x → is_some (told_row x.1) ≡ true
-  row_some q i x p is = ap (λ y. is_some (told_row y.1)) ((object_at owner keys objects (joined keys objects) s.kept i (at_within q i p)).3 x is)
+  pub row_some : (q i : ℕ) (x : Item) → IsAt nat_cmp (map key_pair keys) q i → x ≡ get_or objects i x → is_some (row_here x.1) ≡ true
+  row_some q i x p is = ap (λ y. is_some (row_here y.1)) ((object_at owner keys objects (joined keys objects) s.kept i (at_within q i p)).3 x is)
 
   -- what is seen of them
   pub objects_view : objects ≡ map (λ e. (Obj (record { owner = owner; serial = e.0 }), Here e.1.0)) (m.entries (rows_in (joined keys objects)))

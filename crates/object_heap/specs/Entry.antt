@@ -6,7 +6,7 @@ use Rattle.plain_list.specs.Rising.{IsGap}
 use Rattle.orca_names.specs.declared.names.Thing.{Thing}
 use Rattle.orca_names.specs.declared.names.Thing.TheVariants.{Obj}
 use Rattle.letter_kinds.specs.Holdings.{Row}
-use Rattle.row_store.specs.Told.{told_row}
+use Rattle.row_store.specs.Told.{row_here}
 use Rattle.row_store.specs.declared.told.Told.{Told}
 use Rattle.row_store.specs.declared.told.Told.TheVariants.{Here}
 use Rattle.object_heap.specs.declared.search.Key.{Key}
@@ -51,7 +51,7 @@ abbrev pub joined : List Key → List Item → List Own
 joined [] objects = []
 joined (k ∷ keys) [] = []
 joined (k ∷ keys) (e ∷ objects) =
-    record { serial = k.serial; count = k.count; row = unwrap_or (told_row e.1) [] } ∷ joined keys objects
+    record { serial = k.serial; count = k.count; row = unwrap_or (row_here e.1) [] } ∷ joined keys objects
 
 -- the first serial; 0 where there is none
 abbrev pub first_of : List ℕ → ℕ

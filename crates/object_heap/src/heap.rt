@@ -8,7 +8,7 @@ ghost use Rattle.object_heap.specs.Entry.{FollowOn, first_of};
 ghost use Rattle.object_heap.specs.Free.{SerialsRise, freed};
 ghost use Rattle.object_heap.specs.Heap.{Has, IsSame, counted, own_objects, own_row, with_new, without};
 ghost use Rattle.ref_weights.specs.Limit.{count_limit};
-ghost use Rattle.row_store.specs.Told.{told_row};
+ghost use Rattle.row_store.specs.Told.{row_here};
 
 use crate::free::keep_others;
 use crate::search::{Key, first_serial, follow_on, place_of, place_there};
@@ -65,12 +65,12 @@ fn same_objects(objects: &[(Thing, Told)], others: &[(Thing, Told)]) -> bool
 // The row of an object, which is there.
 #[inline(always)]
 fn row_there(object: &(Thing, Told)) -> &Row
-    requires { IsSome (told_row object.now.1) }
-    ensures { told_row object.now.1 ≡ Some result.now }
+    requires { IsSome (row_here object.now.1) }
+    ensures { row_here object.now.1 ≡ Some result.now }
 {
     match &object.1 {
         Told::Here(row) => row,
-        Told::Nothing => unreachable!(),
+        Told::Nothing | Told::In(_) => unreachable!(),
     }
 }
 

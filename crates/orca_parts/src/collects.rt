@@ -19,6 +19,7 @@ use actor_table::{ActorTable, Collect};
 use event_rule::Event;
 use orca_names::{ActorName, Trace};
 use plain_list::Listed;
+use row_store::NoBlocks;
 use std::alloc::Global;
 use std::mem;
 
@@ -44,7 +45,7 @@ fn find_collect(
     if known {
         return Ok(());
     }
-    *sweep = cell.find_collect(alloc, trace)?;
+    *sweep = cell.find_collect(alloc, trace, &mut NoBlocks::default())?;
     Ok(())
 }
 

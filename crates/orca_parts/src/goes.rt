@@ -17,7 +17,7 @@ ghost use Rattle.ref_weights.specs.Limit.{count_limit};
 ghost use Rattle.actor_cell.specs.Goes.{out_of};
 ghost use Rattle.actor_cell.specs.Moves.{act_in};
 ghost use Rattle.letter_kinds.specs.Letters.{App as app, Inc as inc};
-ghost use Rattle.row_store.specs.Told.{as_load};
+ghost use Rattle.letter_kinds.specs.Load.{as_load};
 ghost use Rattle.orca_parts.specs.Away.{KeepsAway};
 ghost use Rattle.orca_parts.specs.Awaiting.{AwaitsMinted, IsAwaited};
 ghost use Rattle.orca_parts.specs.Faults.{RefusedBy};
@@ -41,6 +41,7 @@ use event_rule::Event;
 use letter_kinds::Letter;
 use mail_rows::MailRow;
 use orca_names::{ACTORS_LIMIT, ActorName, NoMemory};
+use row_store::NoBlocks;
 use std::alloc::Global;
 
 // Takes the memory for what the act that was found gives out.
@@ -137,12 +138,20 @@ fn find_turn(alloc: Global, m: &mut Core<'_>, known: bool, a: ActorName) -> Resu
     let found = &mut m.parts.turned;
     if stands {
         if let Some(letter) = found.awaits(a) {
-            cell.find_again(alloc, code, options, turn, letter, found)?;
+            cell.find_again(
+                alloc,
+                code,
+                options,
+                turn,
+                letter,
+                found,
+                &mut NoBlocks::default(),
+            )?;
             m.stands = true;
             return Ok(());
         }
     }
-    cell.find_go(alloc, code, options, turn, found)?;
+    cell.find_go(alloc, code, options, turn, found, &mut NoBlocks::default())?;
     m.stands = true;
     Ok(())
 }

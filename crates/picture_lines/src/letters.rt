@@ -4,7 +4,8 @@ ghost use Rattle.std.specs.Prelude.{◌≡◌, ◌++◌, ◌∷◌, [], codes, f
 ghost use Rattle.std.specs.Option.{option_map_or};
 ghost use Rattle.behaviour_text.specs.Text.{line_of};
 ghost use Rattle.letter_kinds.specs.Letters.{as_letter};
-ghost use Rattle.row_store.specs.Told.{as_load, told_row};
+ghost use Rattle.letter_kinds.specs.Load.{as_load};
+ghost use Rattle.row_store.specs.Told.{row_here};
 ghost use Rattle.picture_rules.specs.Words.{amount_words, text_of_lines, thing_word, value_words};
 ghost use Rattle.picture_rules.specs.Seats.{brings_line, letter_lines, loads_lines};
 
@@ -18,11 +19,11 @@ use std::alloc::AllocError;
 
 /// The values of the row that is told, none where none is.
 fn values_of(told: &Told) -> &[Value]
-    ensures { result.now ≡ option_map_or (λ r. r) (told_row told.now) [] }
+    ensures { result.now ≡ option_map_or (λ r. r) (row_here told.now) [] }
 {
     match told {
         Told::Here(row) => row.as_slice(),
-        Told::Nothing => &[],
+        Told::Nothing | Told::In(_) => &[],
     }
 }
 

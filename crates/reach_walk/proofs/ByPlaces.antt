@@ -16,9 +16,12 @@ use Rattle.orca_names.specs.declared.names.Thing.{Thing}
 use Rattle.orca_names.specs.declared.names.Thing.TheVariants.{Actor, Obj}
 use Rattle.orca_names.specs.declared.names.Value.{Value}
 use Rattle.orca_names.proofs.ThingOrder.{thing_exact}
+use Rattle.row_store.specs.Lent.{IsLent}
+use Rattle.row_store.specs.Told.{Lying, thing_block}
+use Rattle.row_store.specs.declared.lent.Lent.{Lent}
 use Rattle.reach_walk.specs.Met.{Grows, HasMet, HasReached, HasUnplaced, ListsRows, met_by}
 use Rattle.reach_walk.specs.Reach.{named_by, row_edges, thing_row, AreReached, Reaches, root, step, owned}
-use Rattle.reach_walk.specs.Marks.{Covers, load_of, marks_of}
+use Rattle.reach_walk.specs.Marks.{Covers, marks_of}
 use Rattle.reach_walk.specs.Rows.{Contains-map}
 use Rattle.reach_walk.specs.Walk.{AreTold, IsOn}
 use Rattle.reach_walk.specs.declared.noted.Noted.{Noted}
@@ -53,12 +56,12 @@ module _ (place : Thing → Option ℕ) (in_order : (x y : Thing) (p q : ℕ) �
   pub one_thing : (x y : Thing) (p : ℕ) → place x ≡ Some p → place y ≡ Some p → x ≡ y
   one_thing x y p e f = thing_exact x y (in_order x y p p e f ∙ tied_itself nat_cmp_total p)
 
-  -- the row at the place of an object
-  pub row_there : (rows : ObjName → Option (List Value)) (count : ℕ) (t : Thing) (n : ObjName) (at : ℕ) (entry row : Option (List Value)) → ((x : Thing) (p : ℕ) → place x ≡ Some p → p < count) → (at < count → place t ≡ Some at) → (at < count → entry ≡ thing_row rows t) → place (Obj n) ≡ Some at → entry ≡ row
-      → unwrap_or row [] ≡ row_edges rows (Obj n)
-  row_there rows count t n at entry row below there has here is =
+  -- the row that is lent at the place of an object
+  pub lent_there : (rows : ObjName → Option (List Value)) (blocks : ObjName → Option ℕ) (count : ℕ) (t : Thing) (n : ObjName) (at : ℕ) (lent its : Lent) → ((x : Thing) (p : ℕ) → place x ≡ Some p → p < count) → (at < count → place t ≡ Some at) → (at < count → IsLent (thing_row rows t) (thing_block blocks t) lent) → place (Obj n) ≡ Some at → lent ≡ its
+      → IsLent (rows n) (blocks n) its
+  lent_there rows blocks count t n at lent its below there has here is =
       let within = below (Obj n) at here in
-      ap (λ v. unwrap_or v []) (sym is ∙ has within) ∙ ap (row_edges rows) (one_thing t (Obj n) at (there within) here)
+      subst (IsLent (rows n) (blocks n)) is (subst (λ x. IsLent (thing_row rows x) (thing_block blocks x) lent) (one_thing t (Obj n) at (there within) here) (has within))
 
 -- these things were met, and the first of the queued objects are done with
 pub record Goes (place : Thing → Option ℕ) (edges : Thing → List Value) (roots things : List Thing) (queue : List ℕ) (done : ℕ) : Type 0 where
@@ -144,13 +147,13 @@ rows_more row load now things x so_far last = last ∙ ap (λ es. es ++ (x, row 
 module _ (rows : ObjName → Option (List Value)) (all : List ObjName) (args : List Value) (covers : Covers all rows) where
   module _ (place : Thing → Option ℕ) (count : ℕ) (noted : Noted) (things : List Thing) (told : AreTold place count noted things) (reached : AreReached (row_edges rows) (named_by args) things) where
     -- where no thing without a place was met, what lies at the places is the load
-    pub is_load : (load : List (Thing × Option (List Value))) → length noted.others.keys ≡ 0 → ListsRows place rows noted.bits load → load ≡ load_of rows all args
-    is_load load none lists =
+    pub is_load : (lies : Thing → Lying) (load : List (Thing × Lying)) → length noted.others.keys ≡ 0 → ListsRows place lies noted.bits load → load ≡ map (λ x. (x, lies x)) (marks_of rows all args)
+    is_load lies load none lists =
         let same : (x : Thing) → Contains lists.0 x ↔ Contains things x = λ x. (
           λ c. (told_apart place count noted things told x).1 (inr ((lists.3 x).0 c)),
           λ c. (lists.3 x).1 (elim ((told_apart place count noted things told x).0 c) as (λ _. IsOn (place x) noted.bits) [ inl d ↦ absurd (omega (arith, d.1, none)) | inr on ↦ on ]),
         ) in
-        lists.1 ∙ ap (map (λ x. (x, thing_row rows x))) (marks-listed rows all args covers things lists.0 reached same lists.2)
+        lists.1 ∙ ap (map (λ x. (x, lies x))) (marks-listed rows all args covers things lists.0 reached same lists.2)
 
     -- where a thing without a place was met, one is among the marks
     pub has_unplaced : length noted.others.keys ≢ 0 → HasUnplaced place (marks_of rows all args)
@@ -172,8 +175,3 @@ module _ (rows : ObjName → Option (List Value)) (all : List ObjName) (args : L
   -- no more objects are queued than there are marks
   pub queued_marks : (place : Thing → Option ℕ) (count : ℕ) (met : Met) → HasReached place count rows args met → length met.queue.items ≤ length (marks_of rows all args)
   queued_marks place count met found = queued_met place count met found.0 (marks_of rows all args) found.1 (λ x there. reached-marks rows all args covers x ((found.2 x).0 there))
-
-  -- nor than the load has things
-  pub queued_load : (place : Thing → Option ℕ) (count : ℕ) (met : Met) → HasReached place count rows args met → length met.queue.items ≤ length (load_of rows all args)
-  queued_load place count met found =
-      omega (arith, queued_marks place count met found, length-map {B = Thing × Option (List Value)} (marks_of rows all args) (λ x. (x, thing_row rows x)))

@@ -1,4 +1,5 @@
 pub mod Added
+mod Blocks
 pub mod ByPlaces
 pub mod Covers
 pub mod Distinct

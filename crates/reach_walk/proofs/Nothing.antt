@@ -5,8 +5,9 @@ use Rattle.std.specs.List.{cons_option}
 use Rattle.orca_names.specs.declared.names.ObjName.{ObjName}
 use Rattle.orca_names.specs.declared.names.Thing.{Thing}
 use Rattle.orca_names.specs.declared.names.Value.{Value}
-use Rattle.reach_walk.specs.Marks.{in_order, led_over, led_to, load_of, marks_of, with_owners}
-use Rattle.reach_walk.specs.Reach.{named_by, thing_of, thing_row}
+use Rattle.reach_walk.specs.Marks.{in_order, led_over, led_to, load_lying, marks_of, with_owners}
+use Rattle.reach_walk.specs.Reach.{named_by, thing_of}
+use Rattle.row_store.specs.Told.{thing_lies}
 
 over_nothing : (rows : ObjName → Option (List Value)) (n : ℕ) → led_over rows n [] ≡ []
 over_nothing rows zero = refl
@@ -21,10 +22,10 @@ marks_of-nothing rows all roots none =
     ap (λ things. in_order (with_owners things)) led
 
 -- their load has nothing
-pub load_of-nothing : (rows : ObjName → Option (List Value)) (all : List ObjName)
-    (args : List Value) → named_by args ≡ [] → load_of rows all args ≡ []
-load_of-nothing rows all args none =
-    ap (map (λ x. (x, thing_row rows x))) (marks_of-nothing rows all args none)
+pub load_lying-nothing : (rows : ObjName → Option (List Value)) (blocks : ObjName → Option ℕ)
+    (all : List ObjName) (args : List Value) → named_by args ≡ [] → load_lying rows blocks all args ≡ []
+load_lying-nothing rows blocks all args none =
+    ap (map (λ x. (x, thing_lies rows blocks x))) (marks_of-nothing rows all args none)
 
 -- ---- a value that names something
 

@@ -6,6 +6,7 @@ use Rattle.orca_names.specs.declared.names.ObjName.{ObjName}
 use Rattle.orca_names.specs.declared.names.Thing.{Thing}
 use Rattle.orca_names.specs.declared.names.Thing.TheVariants.{Actor}
 use Rattle.orca_names.specs.declared.names.Value.{Value}
+use Rattle.row_store.specs.Told.{Lying, thing_lies}
 use Rattle.reach_walk.specs.Reach.{named_by, row_edges, thing_row}
 pub use Rattle.thing_list.specs.Putting.{put_in_order}
 
@@ -44,6 +45,11 @@ marks_of rows all roots = in_order (with_owners (led_to rows all (named_by roots
 abbrev pub load_of : (ObjName → Option (List Value)) → List ObjName → List Value
     → List (Thing × Option (List Value))
 load_of rows all args = map (λ x. (x, thing_row rows x)) (marks_of rows all args)
+
+-- the same, with how the rows lie
+abbrev pub load_lying : (ObjName → Option (List Value)) → (ObjName → Option ℕ) → List ObjName
+    → List Value → List (Thing × Lying)
+load_lying rows blocks all args = map (λ x. (x, thing_lies rows blocks x)) (marks_of rows all args)
 
 -- the load of a letter with root-only tracing: what its arguments reach over no rows
 abbrev pub load_roots : List Value → List (Thing × Option (List Value))

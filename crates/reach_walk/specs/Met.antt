@@ -7,7 +7,8 @@ use Rattle.orca_names.specs.declared.names.ObjName.{ObjName}
 use Rattle.orca_names.specs.declared.names.Thing.{Thing}
 use Rattle.orca_names.specs.declared.names.Thing.TheVariants.{Actor, Obj}
 use Rattle.orca_names.specs.declared.names.Value.{Value}
-use Rattle.reach_walk.specs.Reach.{named_by, row_edges, thing_row, AreReached}
+use Rattle.row_store.specs.Told.{Lying}
+use Rattle.reach_walk.specs.Reach.{named_by, row_edges, AreReached}
 use Rattle.reach_walk.specs.Walk.{AreTold, IsOn}
 use Rattle.reach_walk.specs.declared.met.Met.{Met}
 
@@ -46,9 +47,9 @@ HasReached place count rows roots met =
 abbrev pub HasUnplaced : (Thing → Option ℕ) → List Thing → Type 0
 HasUnplaced place things = (x : Thing) × Contains things x × (place x ≡ None)
 
--- the things whose places are on, in the order of things, each with its row
-abbrev pub ListsRows : (Thing → Option ℕ) → (ObjName → Option (List Value)) → List Bool
-    → List (Thing × Option (List Value)) → Type 0
-ListsRows place rows bits load =
-    (things : List Thing) × (load ≡ map (λ x. (x, thing_row rows x)) things)
+-- the things whose places are on, in the order of things, each with how its row lies
+abbrev pub ListsRows : (Thing → Option ℕ) → (Thing → Lying) → List Bool → List (Thing × Lying)
+    → Type 0
+ListsRows place lies bits load =
+    (things : List Thing) × (load ≡ map (λ x. (x, lies x)) things)
     × IsStrictlySortedBy thing_cmp things × ((x : Thing) → Contains things x ↔ IsOn (place x) bits)

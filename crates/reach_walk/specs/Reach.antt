@@ -1,11 +1,12 @@
 -- What is reached from roots, along edges.
-use Rattle.std.specs.Prelude.{◌↔◌, List, [], Option, None, Contains, unwrap_or}
+use Rattle.std.specs.Prelude.{◌↔◌, List, [], Option, Contains, unwrap_or}
 use Rattle.std.specs.List.{filter_map}
 use Rattle.orca_names.specs.declared.names.ObjName.{ObjName}
 use Rattle.orca_names.specs.declared.names.Thing.{Thing}
 use Rattle.orca_names.specs.declared.names.Thing.TheVariants as things
 use Rattle.orca_names.specs.declared.names.Value.{Value}
 pub use Rattle.orca_names.specs.Names.{thing_of}
+pub use Rattle.row_store.specs.Told.{thing_row}
 
 -- the things that values name, in their order
 abbrev pub named_by : List Value → List Thing
@@ -27,11 +28,6 @@ Reaches edges roots x = ReachesFrom edges (Contains roots) x
 -- the list has exactly these
 abbrev pub AreReached : (Thing → List Value) → List Thing → List Thing → Type 0
 AreReached edges roots things = (x : Thing) → Contains things x ↔ Reaches edges roots x
-
--- the row of a thing: an actor has none
-abbrev pub thing_row : (ObjName → Option (List Value)) → Thing → Option (List Value)
-thing_row rows (things.Actor a) = None
-thing_row rows (things.Obj n) = rows n
 
 -- an object leads to the values of its row, an actor nowhere
 abbrev pub row_edges : (ObjName → Option (List Value)) → Thing → List Value

@@ -6,7 +6,7 @@ ghost use Rattle.orca_names.specs.declared.names.Thing.{Thing as any_thing};
 ghost use Rattle.orca_names.specs.declared.names.Thing.TheVariants.{Obj as object};
 ghost use Rattle.orca_names.specs.declared.names.Value as names;
 ghost use Rattle.ready_set.specs.Next.{AreOn};
-ghost use Rattle.row_store.specs.Told.{as_load};
+ghost use Rattle.row_store.specs.Told.{Lying, lie_as, thing_lies};
 ghost use Rattle.reach_walk.specs.Dense.{StandFrom, StandTogether};
 ghost use Rattle.std.specs.Option.{option_copied};
 
@@ -48,7 +48,8 @@ impl<'a> Dense<'a> {
     pub(crate) fn index_of(&self, n: ObjName) -> Option<usize>
         ensures within { IfSome result (λ i. i < length self.now.items.now) }
         ensures place { (place : any_thing → Option ℕ) (rows : object_name → Option (List names.Value))
-            → StandTogether place rows self.now → IfSome result (λ i.
+            (blocks : object_name → Option ℕ)
+            → StandTogether place rows blocks self.now → IfSome result (λ i.
             (n.owner ≡ self.now.owner) × (place (object n) ≡ Some (self.now.base + i))) }
     {
         if n.owner != self.owner {
@@ -72,12 +73,13 @@ impl<'a> Dense<'a> {
         }
     }
 
-    /// The row of what stands at a place, where that is one of these.
+    /// The row of what stands at a place, where that is one of these and its row is at hand.
     #[inline(always)]
     pub(crate) fn row_at(&self, at: usize) -> Option<&'a Row>
-        ensures { (row : List names.Value) → option_copied result ≡ Some row
-            → (i : ℕ) × (x : any_thing) × (at ≡ self.now.base + i)
-            × (slice_get (as_load self.now.items.now) i ≡ Some (x, Some row)) }
+        ensures { (rows : object_name → Option (List names.Value)) (row : List names.Value)
+            → option_copied result ≡ Some row
+            → (i : ℕ) × (e : any_thing × Lying) × (at ≡ self.now.base + i)
+            × (slice_get (lie_as rows self.now.items.now) i ≡ Some e) × (e.1.row ≡ Some row) }
     {
         if at < self.base {
             return None;
@@ -97,7 +99,8 @@ impl<'a> Dense<'a> {
     #[inline(always)]
     pub(crate) fn run_at(&self, bits: &PlaceSet, at: usize) -> &'a [(Thing, Told)]
         ensures run { (place : any_thing → Option ℕ) (rows : object_name → Option (List names.Value))
-            → StandTogether place rows self.now → StandFrom place rows at (as_load result.now) }
+            (blocks : object_name → Option ℕ) → StandTogether place rows blocks self.now
+            → StandFrom place (thing_lies rows blocks) at (lie_as rows result.now) }
         ensures on { AreOn bits.now at (at + length result.now) }
     {
         let items = self.items;

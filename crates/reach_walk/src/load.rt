@@ -1,14 +1,14 @@
 // Loads: what a letter's arguments reach, with the rows.
 
-ghost use Rattle.std.specs.Prelude.{◌≡◌, ◌↔◌, ◌+◌, ◌*◌, ◌<◌, ◌≤◌, [], IfOk, IsOk, IsTrue, OnOk, length, map};
-ghost use Rattle.row_store.specs.Told.{as_load};
-ghost use Rattle.reach_walk.specs.Marks.{load_of as its_load, marks_of};
-ghost use Rattle.reach_walk.specs.Reach.{named_by, thing_row};
+ghost use Rattle.std.specs.Prelude.{◌≡◌, ◌↔◌, ◌+◌, ◌*◌, ◌<◌, ◌≤◌, ◌++◌, ◌∷◌, [], IfOk, IsOk, IsTrue, OnOk, length, map, vec_capacity, vec_len};
+ghost use Rattle.row_store.specs.Told.{lie_as, thing_lies};
+ghost use Rattle.reach_walk.specs.Marks.{load_lying, marks_of};
+ghost use Rattle.reach_walk.specs.Reach.{named_by};
 
-use crate::reading::read_row;
 use crate::seen::Seen;
+use crate::telling::TellsRows;
 use crate::walk_rows::{walk_freely, walk_rows};
-use orca_names::{Args, NoMemory, Row, RowReader, Thing, Value};
+use orca_names::{Args, NoMemory, RowReader, Thing, Value};
 use plain_list::Listed;
 use row_store::Told;
 use std::alloc::Global;
@@ -55,47 +55,61 @@ fn names_nothing(values: &[Value]) -> bool
     names_nothing_counted::<Brand>(values, Blank::new(1))
 }
 
-/// Each of these things with its row.
+// Appends a thing with what is told of its row. That is written into its place: as a part of what is
+// appended it would be copied twice.
+#[inline(always)]
+fn push_told<R: TellsRows>(load: &mut Vec<(Thing, Told)>, thing: &Thing, rows: &mut R)
+    requires { vec_len load.old < vec_capacity load.old }
+    ensures load { let its = R.rows rows.old in
+        let lies = thing_lies its (R.blocks rows.old) in
+        lie_as its load.new.items ≡ lie_as its load.old.items ++ (thing.now, lies thing.now) ∷ [] }
+    ensures room { vec_capacity load.new ≡ vec_capacity load.old }
+    ensures rows { (R.rows rows.new ≡ R.rows rows.old) × (R.all rows.new ≡ R.all rows.old)
+        × (R.beside rows.new ≡ R.beside rows.old) }
+{
+    let at = load.len();
+    load.push_reserved((*thing, Told::Nothing));
+    rows.tell(thing, &mut load[at].1);
+}
+
+/// Each of these things with its row, which is told and not read where it lies in a block.
 ///
 /// # Errors
 /// `NoMemory` where memory was refused.
 #[inline(always)]
-pub fn with_rows<R: RowReader>(
+pub fn with_rows<R: TellsRows>(
     alloc: Global,
     things: &[Thing],
     rows: &mut R,
 ) -> Result<Listed<(Thing, Told)>, NoMemory>
-    ensures load { IfOk result (λ load.
-        as_load load ≡ map (λ x. (x, thing_row (R.rows rows.old) x)) things.now) }
+    ensures load { let its = R.rows rows.old in
+        let lies = thing_lies its (R.blocks rows.old) in
+        IfOk result (λ load. lie_as its load ≡ map (λ x. (x, lies x)) things.now) }
     ensures rows { (R.rows rows.new ≡ R.rows rows.old) × (R.all rows.new ≡ R.all rows.old)
         × (R.beside rows.new ≡ R.beside rows.old) }
 {
     let mut load = Vec::with_capacity(alloc, things.len())?;
-    let mut row = Row::of(&[Value::Null]);
     for thing in things {
-        if read_row(rows, thing, &mut row) {
-            load.push_reserved((*thing, Told::Here(row)));
-        } else {
-            load.push_reserved((*thing, Told::Nothing));
-        }
+        push_told(&mut load, thing, rows);
     }
     Ok(Listed::from(load))
 }
 
-/// The load of a letter with these arguments: each thing that they reach, with its row. A step is
-/// one thing taken from the worklist or one value looked at. Where no argument names a thing, it
-/// takes no memory.
+/// The load of a letter with these arguments: each thing that they reach, with its row, which is told
+/// and not read where it lies in a block. A step is one thing taken from the worklist or one value
+/// looked at. Where no argument names a thing, it takes no memory.
 ///
 /// # Errors
 /// `NoMemory` where memory was refused.
-pub fn load_within<R: RowReader, L: Ledger>(
+pub fn load_within<R: TellsRows, L: Ledger>(
     alloc: Global,
     args: &Args,
     rows: &mut R,
     steps: &mut Steps<L>,
 ) -> Result<Listed<(Thing, Told)>, NoMemory>
-    ensures load { IfOk result (λ load.
-        as_load load ≡ its_load (R.rows rows.old) (R.all rows.old) args.now) }
+    ensures load { let its = R.rows rows.old in
+        let lying = load_lying its (R.blocks rows.old) (R.all rows.old) args.now in
+        IfOk result (λ load. lie_as its load ≡ lying) }
     ensures nothing { named_by args.now ≡ [] → IsOk result }
     ensures steps { IfOk result (λ load. steps.new ≤ steps.old + (9 * length load + 9)) }
     ensures rows { (R.rows rows.new ≡ R.rows rows.old) × (R.all rows.new ≡ R.all rows.old)
@@ -140,18 +154,19 @@ pub fn find_loaded<R: RowReader>(
     Ok(())
 }
 
-/// The load of a letter with these arguments: each thing that they reach, with its row. Where no
-/// argument names a thing, it takes no memory.
+/// The load of a letter with these arguments: each thing that they reach, with its row, which is told
+/// and not read where it lies in a block. Where no argument names a thing, it takes no memory.
 ///
 /// # Errors
 /// `NoMemory` where memory was refused.
-pub fn load_of<R: RowReader>(
+pub fn load_of<R: TellsRows>(
     alloc: Global,
     args: &Args,
     rows: &mut R,
 ) -> Result<Listed<(Thing, Told)>, NoMemory>
-    ensures load { IfOk result (λ load.
-        as_load load ≡ its_load (R.rows rows.old) (R.all rows.old) args.now) }
+    ensures load { let its = R.rows rows.old in
+        let lying = load_lying its (R.blocks rows.old) (R.all rows.old) args.now in
+        IfOk result (λ load. lie_as its load ≡ lying) }
     ensures nothing { named_by args.now ≡ [] → IsOk result }
     ensures rows { (R.rows rows.new ≡ R.rows rows.old) × (R.all rows.new ≡ R.all rows.old)
         × (R.beside rows.new ≡ R.beside rows.old) }

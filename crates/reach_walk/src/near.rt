@@ -43,7 +43,8 @@ fn meet_near<R: PlacedRows, L: Ledger>(
     value: &Value,
     steps: &mut Steps<L>,
 ) -> Result<(), NoMemory>
-    requires together { StandTogether (R.place rows.now) (R.rows rows.now) dense.now }
+    requires together { StandTogether (R.place rows.now) (R.rows rows.now) (R.blocks rows.now)
+        dense.now }
     requires room { R.count rows.now ≤ length met.old.noted.bits }
     ensures met { (things : List any_thing)
         → HasMet (R.place rows.now) (R.count rows.now) met.old things
@@ -80,7 +81,8 @@ pub(crate) fn meet_row<R: PlacedRows, L: Ledger>(
     values: &[Value],
     steps: &mut Steps<L>,
 ) -> Result<(), NoMemory>
-    requires together { StandTogether (R.place rows.now) (R.rows rows.now) dense.now }
+    requires together { StandTogether (R.place rows.now) (R.rows rows.now) (R.blocks rows.now)
+        dense.now }
     requires room { R.count rows.now ≤ length met.old.noted.bits }
     ensures met { (things : List any_thing)
         → HasMet (R.place rows.now) (R.count rows.now) met.old things

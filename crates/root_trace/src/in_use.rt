@@ -5,6 +5,7 @@ ghost use Rattle.known_rows.specs.Places.{HoldsOthersOnly};
 ghost use Rattle.local_sweep.specs.Marked.{is_reached};
 ghost use Rattle.local_sweep.specs.Plan.{back_of, plan_of};
 ghost use Rattle.root_trace.specs.Own.{roots_in};
+ghost use Rattle.row_store.specs.Words.{SameWords};
 ghost use Rattle.row_table.specs.Table.{as_held};
 
 use crate::plans::roots_of;
@@ -16,25 +17,28 @@ use object_heap::ObjectHeap;
 use orca_names::{ActorName, Fields, NoMemory};
 use plain_list::Listed;
 use reach_walk::mark_bits;
+use row_store::RowWords;
 use row_table::RowTable;
 use std::alloc::Global;
 
 // The plan of a sweep that keeps what the fields, and the own objects with a count above 0, reach
 // through own rows and these.
-fn plan_in_use(
+fn plan_in_use<W: RowWords>(
     alloc: Global,
     fields: &Fields,
     heap: &ObjectHeap,
     brought: &ForeignTable,
+    words: &mut W,
 ) -> Result<SweepPlan, NoMemory>
     requires { HoldsOthersOnly heap.now brought.now }
-    ensures { let roots = roots_in fields.now.values heap.now in
+    ensures plan { let roots = roots_in fields.now.values heap.now in
         let in_use = is_reached roots heap.now brought.now in
         IfOk result (λ plan. plan ≡ plan_of in_use heap.now brought.now) }
+    ensures words { SameWords W.known W.places W.beside words.old words.new }
 {
     let roots = roots_of(alloc, fields, heap)?;
     let rows = KnownPlaces::of(heap, brought);
-    let marks = mark_bits(alloc, roots.as_slice(), &rows)?;
+    let marks = mark_bits(alloc, roots.as_slice(), &rows, words)?;
     plan_of_marks(alloc, &marks, heap, brought)
 }
 
@@ -43,20 +47,22 @@ fn plan_in_use(
 ///
 /// # Errors
 /// `NoMemory` where memory was refused.
-pub fn unused_rows(
+pub fn unused_rows<W: RowWords>(
     alloc: Global,
     fields: &Fields,
     heap: &ObjectHeap,
     known: &RowTable,
+    words: &mut W,
 ) -> Result<Listed<(ActorName, Amounts)>, NoMemory>
     requires { HoldsOthersOnly heap.now (as_held known.now) }
-    ensures { let roots = roots_in fields.now.values heap.now in
+    ensures unused { let roots = roots_in fields.now.values heap.now in
         let in_use = is_reached roots heap.now (as_held known.now) in
         IfOk result (λ unused. unused ≡ back_of in_use heap.now (as_held known.now)) }
+    ensures words { SameWords W.known W.places W.beside words.old words.new }
 {
     match known.held() {
         Some(brought) => {
-            let plan = plan_in_use(alloc, fields, heap, brought)?;
+            let plan = plan_in_use(alloc, fields, heap, brought, words)?;
             Ok(plan.back)
         }
         None => Ok(Listed::new(alloc)),

@@ -1,14 +1,14 @@
 // What a letter loads, and which rows it carries.
 
 ghost use Rattle.std.specs.Prelude.{◌≡◌, [], None, IfOk, OnOk, map};
-ghost use Rattle.row_store.specs.Told.{as_load};
-ghost use Rattle.reach_walk.specs.Marks.{load_of as deep_load, marks_of};
-ghost use Rattle.reach_walk.specs.Reach.{thing_row};
+ghost use Rattle.letter_kinds.specs.Load.{as_load};
+ghost use Rattle.reach_walk.specs.Marks.{load_lying, marks_of};
+ghost use Rattle.row_store.specs.Told.{lie_as, thing_row};
 
 use crate::nowhere::NoRows;
 use letter_kinds::Load;
-use orca_names::{Args, NoMemory, RowReader, Thing};
-use reach_walk::{ThingList, find_loaded, load_of, with_rows};
+use orca_names::{Args, NoMemory, Thing};
+use reach_walk::{TellsRows, ThingList, find_loaded, load_of, with_rows};
 use std::alloc::Global;
 
 /// Finds the things of the load of a letter: those that stand in its arguments, and the owners of
@@ -34,13 +34,14 @@ pub fn without_rows(alloc: Global, things: &[Thing]) -> Result<Load, NoMemory>
 }
 
 /// What a letter carries uncounted: all that its arguments reach through the rows that the sender
-/// knows, each object with its row.
+/// knows, each object with its row as it lies.
 ///
 /// # Errors
 /// `NoMemory` where memory was refused.
-pub fn rows_of<R: RowReader>(alloc: Global, args: &Args, known: &mut R) -> Result<Load, NoMemory>
-    ensures rows { IfOk result (λ rows.
-        as_load rows ≡ deep_load (R.rows known.old) (R.all known.old) args.now) }
+pub fn rows_of<R: TellsRows>(alloc: Global, args: &Args, known: &mut R) -> Result<Load, NoMemory>
+    ensures rows { let its = R.rows known.old in
+        let lying = load_lying its (R.blocks known.old) (R.all known.old) args.now in
+        IfOk result (λ rows. lie_as its rows ≡ lying) }
     ensures same { (R.rows known.new ≡ R.rows known.old) × (R.all known.new ≡ R.all known.old)
         × (R.beside known.new ≡ R.beside known.old) }
 {

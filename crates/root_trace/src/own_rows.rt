@@ -1,11 +1,12 @@
 // The rows of an actor's own objects.
 
-ghost use Rattle.std.specs.Prelude.{◌≡◌, Some};
+ghost use Rattle.std.specs.Prelude.{◌≡◌, None, Some};
 ghost use Rattle.object_heap.specs.Heap.{own_row};
 
 use known_rows::KnownPlaces;
-use orca_names::{ObjName, Row, RowReader, Thing, Value};
-use reach_walk::{Dense, PlacedRows, Places};
+use orca_names::Thing;
+use reach_walk::{BlockRows, Dense, PlacedRows, Places};
+use row_store::Lent;
 
 /// The rows of the own objects alone, with the places of all that the actor knows.
 #[derive(Drop)]
@@ -13,29 +14,14 @@ pub(crate) struct OwnRows<'a> {
     pub(crate) known: KnownPlaces<'a>,
 }
 
-impl RowReader for OwnRows<'_> {
-    ghost use Rattle.std.specs.Prelude.{⊤};
-    ghost use Rattle.object_heap.specs.Heap.{own_row};
+impl BlockRows for OwnRows<'_> {
     ghost use Rattle.root_trace.specs.Own.{own_names, own_named};
-
-    ghost Beside = { ⊤ };
-
-    ghost beside = { λ _. tt };
 
     ghost rows = { λ s. own_row s.known.rows.heap.now };
 
-    ghost all = { λ s. own_names s.known.rows.heap.now };
+    ghost blocks = { λ _ _. None };
 
-    fn read_into(&mut self, n: ObjName, row: &mut Row) -> bool {
-        let heap = self.known.rows.heap;
-        match heap.row(n) {
-            Some(found) => {
-                *row = *found;
-                true
-            }
-            None => false,
-        }
-    }
+    ghost all = { λ s. own_names s.known.rows.heap.now };
 
     ghost within = { λ s n row e. own_named s.known.rows.heap.now n row e };
 }
@@ -43,13 +29,13 @@ impl RowReader for OwnRows<'_> {
 impl PlacedRows for OwnRows<'_> {
     ghost use Rattle.root_trace.specs.Own.{own_have_places};
 
-    fn entry_at(&self, at: usize) -> (Thing, Option<&[Value]>) {
+    fn entry_at(&self, at: usize) -> (Thing, Lent<'_>) {
         let known = &self.known;
         let (thing, row) = known.entry_at(at);
         if thing.owner() == known.rows.heap.owner() {
             (thing, row)
         } else {
-            (thing, None)
+            (thing, Lent::Nothing)
         }
     }
 

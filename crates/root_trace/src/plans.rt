@@ -8,6 +8,7 @@ ghost use Rattle.local_sweep.specs.Plan.{plan_of};
 ghost use Rattle.machine_rules.specs.Cell.{Cell};
 ghost use Rattle.machine_rules.specs.Collect.{is_marked_by_roots};
 ghost use Rattle.root_trace.specs.Own.{object_root, roots_in};
+ghost use Rattle.row_store.specs.Words.{SameWords};
 
 use crate::own_rows::OwnRows;
 use foreign_table::ForeignTable;
@@ -17,6 +18,7 @@ use local_sweep::plan_of_marks;
 use object_heap::ObjectHeap;
 use orca_names::{Fields, NoMemory, Value};
 use reach_walk::mark_bits;
+use row_store::RowWords;
 use std::alloc::Global;
 
 // Adds an own object, by its place in the order of serials, to the roots if it is counted.
@@ -54,21 +56,23 @@ pub(crate) fn roots_of(
 ///
 /// # Errors
 /// `NoMemory` where memory was refused.
-pub fn plan_roots(
+pub fn plan_roots<W: RowWords>(
     alloc: Global,
     fields: &Fields,
     heap: &ObjectHeap,
     foreign: &ForeignTable,
+    words: &mut W,
 ) -> Result<SweepPlan, NoMemory>
     requires { HoldsOthersOnly heap.now foreign.now }
-    ensures { (c : Cell) → c.fields ≡ fields.now → c.holdings.rows ≡ heap.now.rows →
+    ensures plan { (c : Cell) → c.fields ≡ fields.now → c.holdings.rows ≡ heap.now.rows →
         let marked = is_marked_by_roots heap.now.owner c in
         IfOk result (λ plan. plan ≡ plan_of marked heap.now foreign.now) }
+    ensures words { SameWords W.known W.places W.beside words.old words.new }
 {
     let roots = roots_of(alloc, fields, heap)?;
     let own = OwnRows {
         known: KnownPlaces::of(heap, foreign),
     };
-    let marks = mark_bits(alloc, roots.as_slice(), &own)?;
+    let marks = mark_bits(alloc, roots.as_slice(), &own, words)?;
     plan_of_marks(alloc, &marks, heap, foreign)
 }

@@ -75,6 +75,10 @@ first_word block = 17 * block
 abbrev pub HoldsRow : ℕ → List Value → Words → Type 0
 HoldsRow block row known = LieAt (first_word block) (row_words row) known
 
+-- the block's words are known, and are those of some row
+abbrev pub HasRow : ℕ → Words → Type 0
+HasRow block known = (row : List Value) × IsRow row × HoldsRow block row known
+
 -- with the row in the block
 abbrev pub with_row : ℕ → List Value → Words → Words
 with_row block row known = with_words (first_word block) (row_words row) known
@@ -82,3 +86,10 @@ with_row block row known = with_words (first_word block) (row_words row) known
 -- the block's words may be written
 abbrev pub CanPut : ℕ → List ℕ → Type 0
 CanPut block places = (i : ℕ) → i < 17 → Contains places (first_word block + i)
+
+-- words are known and may be written as before, beside the same
+pub record SameWords {S B : Type 0} (knows : S → Words) (opens : S → List ℕ) (stands : S → B)
+    (old new : S) : Type 0 where
+  pub known : knows new ≡ knows old
+  pub places : opens new ≡ opens old
+  pub beside : stands new ≡ stands old

@@ -2,7 +2,7 @@
 
 ghost use Rattle.std.specs.Prelude.{◌≡◌, ◌+◌, ◌<◌, ◌^◌, ◌∷◌, [], Contains};
 ghost use Rattle.orca_names.specs.declared.names.Value.{Value as value};
-ghost use Rattle.row_store.specs.Words.{FitsValue, LieAt, head_word, tail_word, value_of, with_words};
+ghost use Rattle.row_store.specs.Words.{FitsValue, LieAt, SameWords, head_word, tail_word, value_of, with_words};
 
 use crate::words::RowWords;
 use orca_names::{ActorName, ObjName, Serial, Value};
@@ -82,9 +82,7 @@ pub(crate) fn value_at<W: RowWords>(words: &mut W, at: u64) -> Value
         × LieAt at (head_word v ∷ tail_word v ∷ []) (W.known words.old) }
     ensures value { (v : value) → LieAt at (head_word v ∷ tail_word v ∷ []) (W.known words.old)
         → result ≡ v }
-    ensures same { (W.known words.new ≡ W.known words.old)
-        × (W.places words.new ≡ W.places words.old) }
-    ensures beside { W.beside words.new ≡ W.beside words.old }
+    ensures same { SameWords W.known W.places W.beside words.old words.new }
 {
     let head = words.get_word(at);
     let tail = words.get_word(at + 1);

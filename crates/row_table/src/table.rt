@@ -2,7 +2,7 @@
 
 ghost use Rattle.std.specs.Prelude.{◌≡◌, ◌↔◌, ◌<◌, ◌≤◌, None, not, IfOk, IsTrue, MatchOption, OnOk};
 ghost use Rattle.std.specs.FinMap as m;
-ghost use Rattle.row_store.specs.Told.{told_row};
+ghost use Rattle.row_store.specs.Told.{row_here};
 ghost use Rattle.foreign_table.specs.Back.{BackRises, goes_back};
 ghost use Rattle.foreign_table.specs.Table.{row_length};
 ghost use Rattle.row_table.specs.Table.{as_held, learnt, nothing_known};
@@ -99,10 +99,10 @@ impl RowTable {
     /// The row of a thing is from now on the one that is told, if one is. It takes no memory.
     pub fn learn(&mut self, thing: Thing, told: &Told)
         requires room { 0 < self.old.spare }
-        requires values { row_length (told_row told.now) ≤ self.old.spare_values }
-        ensures { self.new ≡ learnt thing (told_row told.now) self.old }
+        requires values { row_length (row_here told.now) ≤ self.old.spare_values }
+        ensures { self.new ≡ learnt thing (row_here told.now) self.old }
     {
-        if !told.is_told() {
+        if !told.is_here() {
             return;
         }
         let Some(held) = &mut self.held else {

@@ -11,6 +11,7 @@ use actor_cell::Found;
 use behaviour_check::Checked;
 use event_rule::Event;
 use orca_names::{NoMemory, Options};
+use row_store::NoBlocks;
 use std::alloc::Global;
 
 /// An actor's cell, which is out of the hall now, with the event that the claim is for.
@@ -38,9 +39,13 @@ impl<'a> Taken<'a> {
         ensures { let taken = self.now in
             OnOk result (IsFound taken.options taken.code.now taken.cell found.new) }
     {
-        self.cell
-            .inside()
-            .find_in(alloc, self.code, self.options, found)
+        self.cell.inside().find_in(
+            alloc,
+            self.code,
+            self.options,
+            found,
+            &mut NoBlocks::default(),
+        )
     }
 
     /// The event is evaluated: it is a turn or a collection.

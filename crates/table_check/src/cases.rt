@@ -2,7 +2,7 @@
 
 ghost use Rattle.std.specs.Prelude.{◌≡◌, ◌≤◌, IsTrue};
 ghost use Rattle.foreign_table.specs.Table.{row_length};
-ghost use Rattle.row_store.specs.Told.{told_row};
+ghost use Rattle.row_store.specs.Told.{row_here};
 
 use foreign_table::ForeignTable;
 use object_heap::ObjectHeap;
@@ -144,18 +144,18 @@ pub(crate) fn are_loaded(found: &[(Thing, Told)], want: &[Loaded]) -> bool {
 
 // How many values the row has that is told.
 fn told_len(told: &Told) -> usize
-    ensures { result ≡ row_length (told_row told.now) }
+    ensures { result ≡ row_length (row_here told.now) }
 {
     match told {
         Told::Here(row) => row.len() as usize,
-        Told::Nothing => 0,
+        Told::Nothing | Told::In(_) => 0,
     }
 }
 
 /// Takes room for one thing and the row that is told. Whether there was memory.
 pub(crate) fn reserves_one(table: &mut ForeignTable, told: &Told) -> bool
     ensures room { IsTrue result → 1 ≤ table.new.spare }
-    ensures values { IsTrue result → row_length (told_row told.now) ≤ table.new.spare_values }
+    ensures values { IsTrue result → row_length (row_here told.now) ≤ table.new.spare_values }
 {
     table.reserve(1).is_ok() && table.reserve_values(told_len(told)).is_ok()
 }

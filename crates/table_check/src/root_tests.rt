@@ -6,9 +6,10 @@ use crate::cases::{
 use foreign_table::ForeignTable;
 use known_rows::KnownRows;
 use object_heap::ObjectHeap;
-use orca_names::{ActorName, Args, Reading};
-use reach_walk::ThingList;
+use orca_names::{ActorName, Args};
+use reach_walk::{ThingList, WithWords};
 use root_trace::{NoRows, find_loaded_roots, missing, rows_of, without_rows};
+use row_store::NoBlocks;
 use std::alloc::Global;
 
 const ARGUMENTS: &[Given] = &[
@@ -68,7 +69,11 @@ fn carries_rows(alloc: Global, heap: &ObjectHeap, foreign: &mut ForeignTable) ->
     }
     let args = args_of(&[Given::Object(0, 1)]);
     let known = KnownRows { heap, foreign };
-    match rows_of(alloc, &args, &mut Reading { rows: &known }) {
+    match rows_of(
+        alloc,
+        &args,
+        &mut WithWords::of(&known, &mut NoBlocks::default()),
+    ) {
         Ok(rows) => are_loaded(rows.as_slice(), CARRIED),
         Err(_) => false,
     }

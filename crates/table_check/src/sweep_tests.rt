@@ -12,6 +12,7 @@ use orca_names::{ActorName, Fields};
 use reach_walk::Places;
 use ready_set::PlaceSet;
 use root_trace::plan_roots;
+use row_store::NoBlocks;
 use std::alloc::Global;
 
 /// What keeps a thing.
@@ -186,7 +187,7 @@ fn sweeps(
     if !known.holds_others_only() {
         return false;
     }
-    match plan(alloc, fields, heap, foreign) {
+    match plan(alloc, fields, heap, foreign, &mut NoBlocks::default()) {
         Ok(plan) => {
             apply(&plan, heap, foreign);
             is_wanted(&plan, sweep)
@@ -206,7 +207,7 @@ fn plans_by_own_rows(
     if !known.holds_others_only() {
         return false;
     }
-    match plan_roots(alloc, fields, heap, foreign) {
+    match plan_roots(alloc, fields, heap, foreign, &mut NoBlocks::default()) {
         Ok(plan) => is_wanted(&plan, sweep),
         Err(_) => false,
     }

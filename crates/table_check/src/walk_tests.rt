@@ -1,6 +1,6 @@
 // A small graph by hand: rows that are shared, absent or lead back, owners, roots named twice.
 
-ghost use Rattle.std.specs.Prelude.{◌≡◌, ◌<◌, ◌≤◌, ◌+◌, ◌==◌, ⊤, IfOk, if◌then◌else◌, true, false, None, Some, Contains, ℕ, [], length, map, slice_get};
+ghost use Rattle.std.specs.Prelude.{◌≡◌, ◌<◌, ◌≤◌, ◌+◌, ◌==◌, ◌∷◌, ⊤, IfOk, if◌then◌else◌, true, false, None, Some, Contains, ℕ, [], length, map, slice_get};
 ghost use Rattle.std.specs.List.{range_with_len};
 ghost use Rattle.std.proofs.Common.{refl, sym, subst, ◌∙◌, zero-add};
 ghost use Rattle.std.proofs.lemmas.Bool.{eqb-true};
@@ -8,12 +8,19 @@ ghost use Rattle.std.proofs.lemmas.List.{length-map};
 ghost use Rattle.std.proofs.lemmas.List.FromFn.{length-range_with_len, get_or-map-range_with_len};
 ghost use Rattle.std.proofs.lemmas.Option.{none-some, slice_get_within};
 ghost use Rattle.orca_names.specs.declared.names.ObjName.{ObjName as object_name};
+ghost use Rattle.row_store.specs.Standing.{Stand};
+ghost use Rattle.row_store.specs.Vectors.{known_in};
+ghost use Rattle.table_check.specs.One.{one_has, one_listed, the_one};
 
 use crate::cases::{
     Given, Loaded, Named, are_loaded, are_things, args_of, object, row_of, thing_of,
 };
-use orca_names::{ActorName, NoMemory, ObjName, Reading, Row, Rows, Thing, Value};
-use reach_walk::{Edges, ThingList, find_flat, load_of, load_within, mark, mark_within, walk};
+use orca_names::{ActorName, NoMemory, ObjName, Row, Thing, Value};
+use reach_walk::{
+    BlockRows, Edges, LentRows, ThingList, WithWords, find_flat, load_of, load_within, mark,
+    mark_within, walk,
+};
+use row_store::{Lent, NoBlocks, Told, put};
 use std::alloc::Global;
 use std::marker::Brand;
 use std::sync::ledger::{Blank, Ledger};
@@ -25,20 +32,12 @@ struct Shelf {
     rows: Vec<Row>,
 }
 
-impl Rows for Shelf {
+impl BlockRows for Shelf {
     ghost rows = { λ s n. if n.owner == 0 then slice_get s.rows.items n.serial else None };
 
-    ghost all = { λ s. map (λ k. record { owner = 0; serial = k }) (range_with_len 0 (length s.rows.items)) };
+    ghost blocks = { λ _ _. None };
 
-    fn row_of(&self, n: ObjName) -> Option<&[Value]> {
-        if n.owner != ActorName(0) {
-            return None;
-        }
-        match self.rows.get(n.serial.get() as usize) {
-            Some(row) => Some(row.as_slice()),
-            None => None,
-        }
-    }
+    ghost all = { λ s. map (λ k. record { owner = 0; serial = k }) (range_with_len 0 (length s.rows.items)) };
 
     ghost within = { λ s n row.
         let name : ℕ → object_name = λ serial. record { owner = 0; serial = serial } in
@@ -51,6 +50,18 @@ impl Rows for Shelf {
               (n.serial, subst (λ m. n.serial < m) (sym as_many) inside, at ∙ (λ i. record { owner = sym (eqb-true n.owner 0 own) i; serial = n.serial }))
           | false ↦ λ _ found. absurd (none-some row found)
         ] refl };
+}
+
+impl LentRows for Shelf {
+    fn row_of(&self, n: ObjName) -> Lent<'_> {
+        if n.owner != ActorName(0) {
+            return Lent::Nothing;
+        }
+        match self.rows.get(n.serial.get() as usize) {
+            Some(row) => Lent::Here(row.as_slice()),
+            None => Lent::Nothing,
+        }
+    }
 }
 
 // A graph in which nothing leads on.
@@ -124,7 +135,11 @@ const REACHED: &[(&[Given], &[Named])] = &[
 /// Whether the roots reach these things.
 fn reach(alloc: Global, shelf: &Shelf, roots: &[Given], want: &[Named]) -> bool {
     let roots = args_of(roots);
-    match mark(alloc, roots.as_slice(), &mut Reading { rows: shelf }) {
+    match mark(
+        alloc,
+        roots.as_slice(),
+        &mut WithWords::of(shelf, &mut NoBlocks::default()),
+    ) {
         Ok(marks) => are_things(marks.as_slice(), want),
         Err(_) => false,
     }
@@ -159,7 +174,11 @@ const LOAD: &[Loaded] = &[
 /// Whether both objects are loaded with their rows, and their owner.
 fn loads_both(alloc: Global, shelf: &Shelf) -> bool {
     let args = args_of(&[Given::Object(0, 0), Given::Object(0, 1)]);
-    match load_of(alloc, &args, &mut Reading { rows: shelf }) {
+    match load_of(
+        alloc,
+        &args,
+        &mut WithWords::of(shelf, &mut NoBlocks::default()),
+    ) {
         Ok(load) => are_loaded(load.as_slice(), LOAD),
         Err(_) => false,
     }
@@ -196,7 +215,12 @@ fn marks_of_first<L: Ledger>(
     steps: &mut Steps<L>,
 ) -> Result<usize, NoMemory> {
     let root = [Value::Obj(object(0, 0))];
-    let marks = mark_within(alloc, &root, &mut Reading { rows: shelf }, steps)?;
+    let marks = mark_within(
+        alloc,
+        &root,
+        &mut WithWords::of(shelf, &mut NoBlocks::default()),
+        steps,
+    )?;
     Ok(marks.len())
 }
 
@@ -209,7 +233,12 @@ fn load_of_chain<L: Ledger>(
     ensures { IfOk result (λ count. count ≡ 41 → steps.new ≤ steps.old + 378) }
 {
     let args = args_of(&[Given::Object(0, 39)]);
-    let load = load_within(alloc, &args, &mut Reading { rows: shelf }, steps)?;
+    let load = load_within(
+        alloc,
+        &args,
+        &mut WithWords::of(shelf, &mut NoBlocks::default()),
+        steps,
+    )?;
     Ok(load.len())
 }
 
@@ -284,10 +313,17 @@ const FOUND: &[Named] = &[
 
 /// Whether those that lead nowhere are found flat, and what leads on is not.
 fn finds_flat(shelf: &Shelf, things: &mut ThingList) -> bool {
-    let flat = matches!(find_flat(&args_of(FLAT), shelf, things), Ok(true));
+    let flat = matches!(
+        find_flat(&args_of(FLAT), shelf, things, &mut NoBlocks::default()),
+        Ok(true)
+    );
     let found = are_things(things.as_slice(), FOUND);
     let leads_on = args_of(&[Given::Object(0, 1)]);
-    flat && found && matches!(find_flat(&leads_on, shelf, things), Ok(false))
+    flat && found
+        && matches!(
+            find_flat(&leads_on, shelf, things, &mut NoBlocks::default()),
+            Ok(false)
+        )
 }
 
 fn is_found_flat(alloc: Global, shelf: &Shelf) -> bool {
@@ -304,4 +340,91 @@ fn what_leads_nowhere_is_found_flat(rt: HostRuntime) {
         Err(_) => false,
     };
     assert!(rt; holds);
+}
+
+// Object 2 of actor 0 alone has a row, which lies in block 1. Here it stands for the clauses alone.
+#[derive(Drop)]
+struct InBlock {
+    row: Row,
+}
+
+impl BlockRows for InBlock {
+    ghost rows = { λ s. one_has s.row };
+
+    ghost blocks = { λ _. one_has 1 };
+
+    ghost all = { λ _. the_one ∷ [] };
+
+    ghost within = { λ s n row e. one_listed s.row row n e };
+}
+
+impl LentRows for InBlock {
+    fn row_of(&self, n: ObjName) -> Lent<'_> {
+        if n.owner == ActorName(0) && n.serial.get() == 2 {
+            Lent::In(1)
+        } else {
+            Lent::Nothing
+        }
+    }
+}
+
+/// Words in which the row lies where the table says.
+fn words_with(alloc: Global, table: &InBlock) -> Result<Vec<u64>, NoMemory>
+    ensures { IfOk result (λ words.
+        Stand (one_has table.now.row) (one_has 1) (known_in 0 words.items)) }
+{
+    let mut words = vec![in alloc; 0; 34]?;
+    put(&mut words, 1, &table.row);
+    Ok(words)
+}
+
+const LED_TO: &[Named] = &[
+    Named::Actor(0),
+    Named::Object(0, 2),
+    Named::Actor(4),
+    Named::Object(4, 9),
+];
+
+/// Whether marks go on to what the row names.
+fn marks_go_on(alloc: Global, table: &InBlock) -> Result<bool, NoMemory> {
+    let mut words = words_with(alloc, table)?;
+    let roots = args_of(&[Given::Object(0, 2)]);
+    let marks = mark(
+        alloc,
+        roots.as_slice(),
+        &mut WithWords::of(table, &mut words),
+    )?;
+    Ok(are_things(marks.as_slice(), LED_TO))
+}
+
+/// Whether the object leads no further than to itself.
+fn leads_nowhere(alloc: Global, table: &InBlock) -> Result<bool, NoMemory> {
+    let mut words = words_with(alloc, table)?;
+    let mut things = ThingList::new(alloc);
+    let args = args_of(&[Given::Object(0, 2)]);
+    find_flat(&args, table, &mut things, &mut words)
+}
+
+/// Whether a load tells the block of the row, and not the row.
+fn load_tells_block(alloc: Global, table: &InBlock) -> Result<bool, NoMemory> {
+    let mut words = words_with(alloc, table)?;
+    let args = args_of(&[Given::Object(0, 2)]);
+    let load = load_of(alloc, &args, &mut WithWords::of(table, &mut words))?;
+    let its = (thing_of(Named::Object(0, 2)), Told::In(1));
+    Ok(load.len() == 4 && load.as_slice().get(1) == Some(&its))
+}
+
+fn reads_words(alloc: Global, table: &InBlock) -> Result<bool, NoMemory> {
+    Ok(
+        marks_go_on(alloc, table)?
+            && !leads_nowhere(alloc, table)?
+            && load_tells_block(alloc, table)?,
+    )
+}
+
+#[test]
+fn rows_in_blocks_are_read_from_words(rt: HostRuntime) {
+    let row = Row::of(&[Value::Obj(object(4, 9)), Value::Num(3)]);
+    let holds = reads_words(rt.alloc(), &InBlock { row });
+    assert!(rt; matches!(holds, Ok(true)));
 }

@@ -5,7 +5,7 @@ use Rattle.std.specs.List.{filter, list_any}
 use Rattle.orca_names.specs.Names.{owner_of}
 use Rattle.orca_names.specs.declared.names.Thing.{Thing}
 use Rattle.row_store.specs.declared.told.Told.{Told}
-use Rattle.row_store.specs.Told.{as_load}
+use Rattle.letter_kinds.specs.Load.{as_load}
 use Rattle.letter_kinds.specs.Counting.{Amount, Loaded, is_lacking}
 use Rattle.letter_kinds.specs.Holdings.{held_in}
 use Rattle.foreign_table.specs.Table.{Table}

@@ -12,7 +12,8 @@ use Rattle.orca_names.specs.declared.names.Thing.TheVariants.{Actor, Obj}
 use Rattle.letter_kinds.specs.Counting.{Loaded, set_own, set_held, lower, raise, gain, spend, receive, receive_one, send, send_one}
 use Rattle.letter_kinds.specs.Holdings.{Holdings, Row, own_in, held_in, has_own, row_count, entry_count, entry_row}
 use Rattle.ref_weights.specs.Limit.{count_limit}
-use Rattle.row_store.specs.Told.{as_load, as_loaded, told_row}
+use Rattle.letter_kinds.specs.Load.{as_load, as_loaded}
+use Rattle.row_store.specs.Told.{row_here}
 use Rattle.row_store.specs.declared.told.Told.{Told}
 use Rattle.letter_kinds.proofs.Counts.{cond_eq, cond_ne}
 use Rattle.object_heap.specs.Heap.{Heap, Has, counted}
@@ -100,7 +101,7 @@ rest_of load i e l is = drop_more load i e l ∙ ap (λ f. f ∷ drop (i + 1) lo
 
 -- the values of what is left of a load are those of its first thing and of the others
 pub values_rest : (load : List (Thing × Told)) (i : ℕ) (e : Thing × Told) → drop i load ≡ e ∷ drop (i + 1) load
-    → values_of (as_load (drop i load)) ≡ row_length (told_row e.1) + values_of (as_load (drop (i + 1) load))
+    → values_of (as_load (drop i load)) ≡ row_length (row_here e.1) + values_of (as_load (drop (i + 1) load))
 values_rest load i e rest =
     ap (λ xs. values_of (as_load xs)) rest ∙ sum_by-cons (λ (x : Loaded). row_length x.1) (as_loaded e) (as_load (drop (i + 1) load))
 

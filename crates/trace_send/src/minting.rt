@@ -3,7 +3,7 @@
 ghost use Rattle.std.specs.Prelude.{◌≡◌, ℕ, ◌==◌, ◌&&◌, IfOk, filter, map, slice_get, option_map};
 ghost use Rattle.std.specs.List.{list_any};
 ghost use Rattle.orca_names.specs.Names.{owner_of};
-ghost use Rattle.row_store.specs.Told.{as_load};
+ghost use Rattle.letter_kinds.specs.Load.{as_load};
 ghost use Rattle.letter_kinds.specs.Counting.{is_lacking};
 ghost use Rattle.object_heap.specs.Heap.{Heap};
 ghost use Rattle.known_rows.specs.Holdings.{holdings_of};

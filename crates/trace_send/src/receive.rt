@@ -1,7 +1,8 @@
 // Who takes a letter counts what it loads.
 
 ghost use Rattle.std.specs.Prelude.{◌≡◌, ◌+◌, ◌≤◌, length};
-ghost use Rattle.row_store.specs.Told.{as_load, as_loaded, told_row};
+ghost use Rattle.letter_kinds.specs.Load.{as_load, as_loaded};
+ghost use Rattle.row_store.specs.Told.{row_here};
 ghost use Rattle.letter_kinds.specs.Counting.{receive, receive_one};
 ghost use Rattle.known_rows.specs.Holdings.{holdings_of};
 ghost use Rattle.foreign_table.specs.Table.{row_length};
@@ -26,12 +27,12 @@ fn receive_thing(
     requires mine { heap.old.owner ≡ me }
     requires can { CanReceiveOne me (as_loaded loaded.now) (holdings_of own.old heap.old foreign.old) }
     requires room { 1 ≤ foreign.old.spare }
-    requires values { row_length (told_row loaded.now.1) ≤ foreign.old.spare_values }
+    requires values { row_length (row_here loaded.now.1) ≤ foreign.old.spare_values }
     ensures counts { holdings_of own.new heap.new foreign.new
         ≡ receive_one me (as_loaded loaded.now) (holdings_of own.old heap.old foreign.old) }
     ensures heap { (heap.new.owner ≡ heap.old.owner) × (heap.new.spare ≡ heap.old.spare) }
     ensures room { foreign.old.spare ≤ foreign.new.spare + 1 }
-    ensures values { let its = row_length (told_row loaded.now.1) in
+    ensures values { let its = row_length (row_here loaded.now.1) in
         foreign.old.spare_values ≤ foreign.new.spare_values + its }
 {
     let thing = &loaded.0;

@@ -1,20 +1,21 @@
 // How much room the rows of a load take.
 
 ghost use Rattle.std.specs.Prelude.{◌≡◌, ◌≤◌, ◌^◌, MatchOption};
-ghost use Rattle.row_store.specs.Told.{as_load, told_row};
+ghost use Rattle.letter_kinds.specs.Load.{as_load};
+ghost use Rattle.row_store.specs.Told.{row_here};
 ghost use Rattle.foreign_table.specs.Table.{row_length};
 ghost use Rattle.trace_send.specs.Room.{values_of};
 
 use letter_kinds::Load;
 use row_store::Told;
 
-// The number of values of a row, where one is told.
+// The number of values of a row, where one is told and at hand.
 #[inline(always)]
 fn length_told(told: &Told) -> usize
-    ensures { result ≡ row_length (told_row told.now) }
+    ensures { result ≡ row_length (row_here told.now) }
 {
     match told {
-        Told::Nothing => 0,
+        Told::Nothing | Told::In(_) => 0,
         Told::Here(row) => row.len() as usize,
     }
 }

@@ -1,7 +1,7 @@
 // Who sends a letter counts what it loads, the other way round.
 
 ghost use Rattle.std.specs.Prelude.{◌≡◌};
-ghost use Rattle.row_store.specs.Told.{as_load, as_loaded};
+ghost use Rattle.letter_kinds.specs.Load.{as_load, as_loaded};
 ghost use Rattle.letter_kinds.specs.Counting.{send, send_one};
 ghost use Rattle.known_rows.specs.Holdings.{holdings_of};
 ghost use Rattle.trace_send.specs.Can.{CanSend, CanSendOne};

@@ -1,5 +1,5 @@
 use Rattle.std.proofs.Common.{◌≡◌, map, take}
-use Rattle.row_store.specs.Told.{as_load}
+use Rattle.letter_kinds.specs.Load.{as_load}
 use Rattle.actor_cell.proofs.go.things_of.Given as goal
 
 abbrev pub invariant-loop-loaded : goal.invariant-loop-loaded

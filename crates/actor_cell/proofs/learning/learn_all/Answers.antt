@@ -1,5 +1,5 @@
 use Rattle.std.proofs.Common.{◌+◌, ◌<◌, get_or, length, drop, sym, ap, ◌∙◌, arith}
-use Rattle.row_store.specs.Told.{as_load, as_loaded}
+use Rattle.letter_kinds.specs.Load.{as_load, as_loaded}
 use Rattle.machine_rules.specs.Take.{learn}
 use Rattle.actor_cell.proofs.Learnt.{learn-cons, learn-nil}
 use Rattle.std.proofs.lemmas.List.{drop_all}

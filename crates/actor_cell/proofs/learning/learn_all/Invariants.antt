@@ -1,5 +1,5 @@
 use Rattle.std.proofs.Common.{◌≡◌, ◌+◌, ◌≤◌, length, drop}
-use Rattle.row_store.specs.Told.{as_load}
+use Rattle.letter_kinds.specs.Load.{as_load}
 use Rattle.machine_rules.specs.Take.{learn}
 use Rattle.trace_send.specs.Room.{values_of}
 use Rattle.actor_cell.proofs.learning.learn_all.Given as goal

@@ -1,7 +1,7 @@
 use Rattle.std.proofs.Common.{◌≡◌, true, false, not, eqb, ap, ◌∙◌}
 use Rattle.orca_names.specs.Names.{owner_of}
 use Rattle.trace_send.proofs.Steps.{alike, apart}
-use Rattle.row_store.specs.Told.{as_loaded}
+use Rattle.letter_kinds.specs.Load.{as_loaded}
 use Rattle.row_table.specs.Table.{KnownRows}
 use Rattle.actor_cell.proofs.Learnt.{learn_other, learn_own}
 use Rattle.actor_cell.proofs.learning.learn_one.Goals as goal

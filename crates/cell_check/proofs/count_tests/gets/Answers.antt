@@ -1,4 +1,4 @@
-use Rattle.row_store.specs.Told.{as_load}
+use Rattle.letter_kinds.specs.Load.{as_load}
 use Rattle.actor_cell.specs.Cells.{as_cell}
 use Rattle.cell_check.proofs.Few.{few_received}
 use Rattle.cell_check.proofs.count_tests.gets.Goals as goal

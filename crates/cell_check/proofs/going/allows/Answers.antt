@@ -1,4 +1,4 @@
-use Rattle.row_store.specs.Told.{as_load}
+use Rattle.letter_kinds.specs.Load.{as_load}
 use Rattle.actor_cell.specs.Cells.{as_cell}
 use Rattle.cell_check.proofs.Few.{can_move}
 use Rattle.cell_check.proofs.going.allows.Goals as goal

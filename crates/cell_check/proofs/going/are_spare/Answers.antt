@@ -3,7 +3,7 @@ use Rattle.std.specs.Prelude.{All}
 use Rattle.std.proofs.lemmas.List.{length-map, take_all}
 use Rattle.std.proofs.lemmas.List.Elements.{All-map, All-more}
 use Rattle.orca_names.specs.declared.names.Thing.{Thing}
-use Rattle.row_store.specs.Told.{as_loaded}
+use Rattle.letter_kinds.specs.Load.{as_loaded}
 use Rattle.row_store.specs.declared.told.Told.{Told}
 use Rattle.actor_cell.specs.Cells.{as_cell}
 use Rattle.cell_check.specs.Spare.{IsSpare}

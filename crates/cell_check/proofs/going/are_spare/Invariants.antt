@@ -1,6 +1,6 @@
 use Rattle.std.proofs.Common.{◌≤◌, length, take}
 use Rattle.std.specs.Prelude.{All}
-use Rattle.row_store.specs.Told.{as_loaded}
+use Rattle.letter_kinds.specs.Load.{as_loaded}
 use Rattle.actor_cell.specs.Cells.{as_cell}
 use Rattle.cell_check.specs.Spare.{IsSpare}
 use Rattle.cell_check.proofs.going.are_spare.Given as goal

@@ -1,4 +1,4 @@
-use Rattle.std.proofs.Common.{◌≡◌, List, subst, ap, ◌∙◌}
+use Rattle.std.proofs.Common.{◌≡◌, List, refl, subst, ap, ◌∙◌}
 use Rattle.std.specs.Prelude.{IfOk}
 use Rattle.std.specs.List.{list_any}
 use Rattle.std.specs.FinMap as m
@@ -6,6 +6,7 @@ use Rattle.orca_names.specs.Names.{is_thing}
 use Rattle.orca_names.specs.declared.names.Thing.{Thing}
 use Rattle.orca_names.specs.declared.names.Thing.TheVariants.{Obj}
 use Rattle.orca_names.specs.declared.names.Value.{Value}
+use Rattle.row_store.proofs.Standing.{none_stand}
 use Rattle.reach_walk.specs.Marks.{TellMarks, marks_of}
 use Rattle.object_heap.specs.Heap.{Heap}
 use Rattle.foreign_table.specs.Span.{IsSpan}
@@ -18,12 +19,16 @@ use Rattle.local_sweep.proofs.Naming.{named_marked}
 use Rattle.local_sweep.proofs.SamePlan.{plan_by_bits, same_plan}
 use Rattle.local_sweep.proofs.plans.plan.Goals as goal
 
-pub returns-then-lead_no_further : goal.returns-then-lead_no_further
-returns-then-lead_no_further c =
+-- no row lies in a block
+pub lead_no_further-requires : goal.lead_no_further-requires
+lead_no_further-requires g c = none_stand _ _ _ (λ n. refl)
+
+pub returns-then-lead_no_further-clause-plan : goal.returns-then-lead_no_further-clause-plan
+returns-then-lead_no_further-clause-plan g c =
     let heap = c.args.heap.now in
     let foreign = c.args.foreign.now in
     let values = c.as_slice-values.result.now in
-    let flat = c.lead_no_further.ensures.0 c.if-lead_no_further.true in
+    let flat = c.lead_no_further.ensures.flat.0 c.if-lead_no_further.true in
     let same : (x : Thing) → is_named values x ≡ is_reached c.args.fields.now.values heap foreign x = λ x.
     named_marked (row_known heap foreign) (names_known heap foreign) values (row_known-within heap foreign) flat x
     ∙ ap (λ vs. list_any (is_thing x) (marks_of (row_known heap foreign) (names_known heap foreign) vs)) c.as_slice-values.ensures.value in
@@ -31,8 +36,11 @@ returns-then-lead_no_further c =
     (λ i serial e. same (Obj (object_named heap.owner serial))) (λ j x e. same x) in
     subst (λ p. IfOk c.plan_kept.result (λ plan. plan ≡ p)) plans c.plan_kept.ensures
 
-pub returns : goal.returns
-returns c =
+pub mark_bits-requires : goal.mark_bits-requires
+mark_bits-requires g c = none_stand _ _ _ (λ n. refl)
+
+pub returns-clause-plan : goal.returns-clause-plan
+returns-clause-plan g c =
     let known = c.of-known.result in
     let bits = c.in_ok-marks.marks in
     let heap = c.of-known.ensures.heap in

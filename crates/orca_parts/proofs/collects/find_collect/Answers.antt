@@ -36,6 +36,6 @@ find_collect-requires c =
 pub returns : goal.returns
 returns c = record {
   ok = acts_here (Collect c.args.a) (slot_at c.args.table.now.slots c.args.a) c.in-Some.cell.now
-      (λ (y : Cell). (y.heap.owner ≡ c.args.a) × (c.in_ok-sweep.field-0 ≡ sweep_of c.args.trace y)) c.in-Some.ensures.cell (c.in-Some.ensures.owner, c.in_ok-sweep.ensures);
+      (λ (y : Cell). (y.heap.owner ≡ c.args.a) × (c.in_ok-sweep.field-0 ≡ sweep_of c.args.trace y)) c.in-Some.ensures.cell (c.in-Some.ensures.owner, c.in_ok-sweep.ensures.sweep);
   fault = tt;
 }

@@ -4,7 +4,7 @@ use Rattle.std.proofs.lemmas.List.{length-map}
 use Rattle.orca_names.specs.declared.names.Thing.TheVariants.{Actor}
 use Rattle.event_rule.specs.Runs.{Goes}
 use Rattle.actor_cell.specs.Cells.{as_cell}
-use Rattle.row_store.specs.Told.{as_load}
+use Rattle.letter_kinds.specs.Load.{as_load}
 use Rattle.actor_cell.specs.Moves.{Move, act_in, move_of}
 use Rattle.actor_table.specs.Slots.{actors_of, seat_of, slot_at}
 use Rattle.actor_table.specs.Changes.{changed_at, moved, named, with_cell_by}

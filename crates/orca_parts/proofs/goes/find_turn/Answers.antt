@@ -94,7 +94,7 @@ returns-in-Some-awaits c =
     let cell = c.in-Some.cell.now in
     let home = home_is x cell (acts_home (Go a) x cell c.in-Some.ensures.cell).0 in
     let parts : Parts = record m.parts { turned = c.find_again.new.found } in
-    let does = c.in_ok-find_again.ensures in
+    let does = c.in_ok-find_again.ensures.found in
     let checked = subst IsChecked c.program-program.ensures.value c.program-program.ensures.kept in
     record {
       same = refl;

@@ -1,7 +1,7 @@
 use Rattle.std.proofs.Common.{◌≤◌, ◌++◌, length, map, ap, arith, string_bytes, sym, ◌∙◌}
 use Rattle.std.proofs.lemmas.List.{take_all}
 use Rattle.std.proofs.lemmas.Simd.{map-map}
-use Rattle.row_store.specs.Told.{as_loaded}
+use Rattle.letter_kinds.specs.Load.{as_loaded}
 use Rattle.picture_rules.specs.Words.{text_of_lines}
 use Rattle.picture_rules.specs.Seats.{brings_line}
 use Rattle.picture_lines.proofs.letters.push_brought.Goals as goal

@@ -1,5 +1,5 @@
 use Rattle.std.proofs.Common.{◌≡◌, ◌++◌, map, take, string_bytes}
-use Rattle.row_store.specs.Told.{as_loaded}
+use Rattle.letter_kinds.specs.Load.{as_loaded}
 use Rattle.picture_rules.specs.Words.{text_of_lines}
 use Rattle.picture_rules.specs.Seats.{brings_line}
 use Rattle.picture_lines.proofs.letters.push_brought.Given as goal

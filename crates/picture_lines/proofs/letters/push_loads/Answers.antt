@@ -3,7 +3,7 @@ use Rattle.std.proofs.lemmas.List.{append-nil}
 use Rattle.std.proofs.lemmas.Simd.{map-map}
 use Rattle.orca_names.specs.declared.names.Thing.{Thing}
 use Rattle.behaviour_text.specs.Text.{line_of, rest_of_line}
-use Rattle.row_store.specs.Told.{as_load, as_loaded}
+use Rattle.letter_kinds.specs.Load.{as_load, as_loaded}
 use Rattle.row_store.specs.declared.told.Told.{Told}
 use Rattle.picture_rules.specs.Words.{text_of_lines, thing_word}
 use Rattle.picture_rules.specs.Seats.{loads_lines}

@@ -1,13 +1,12 @@
 use Rattle.std.proofs.Common.{◌++◌, ◌+◌, ◌-◌, [], map, refl, sym, ap, subst, arith}
 use Rattle.ready_set.specs.Next.{AreOff, AreOn}
-use Rattle.row_store.specs.Told.{as_load}
-use Rattle.reach_walk.specs.Reach.{thing_row}
+use Rattle.row_store.specs.Told.{lie_as, thing_lies}
 use Rattle.reach_walk.proofs.Placed.{ListsBelow, lists-none, lists-past, lists-all, off_beyond}
 use Rattle.reach_walk.proofs.Together.{lists-run, rows_run, run_rows}
 use Rattle.reach_walk.proofs.by_place.listed.Goals as goal
 
 pub loop-from-init : goal.loop-from-init
-loop-from-init g c = ([], ap as_load c.in_ok-load.ensures.items, lists-none (g.R.Places.place c.args.rows.now) c.args.bits.now [] refl)
+loop-from-init g c = ([], ap (lie_as (g.R.BlockRows.rows c.args.rows.now)) c.in_ok-load.ensures.items, lists-none (g.R.Places.place c.args.rows.now) c.args.bits.now [] refl)
 
 -- the last of what was pushed is on, and so below the number of places
 pub overflow_add-from : goal.overflow_add-from
@@ -22,7 +21,8 @@ loop-from-preserved g c =
     let rows = c.args.rows.now in
     let bits = c.args.bits.now in
     let place = g.R.Places.place rows in
-    let its = g.R.RowReader.rows rows in
+    let its = g.R.BlockRows.rows rows in
+    let blocks = g.R.BlockRows.blocks rows in
     let so_far = c.loop-from.invariant in
     let at = c.in-Some.at in
     let next = c.in-Some.ensures in
@@ -31,8 +31,8 @@ loop-from-preserved g c =
     let on = subst (λ n. AreOn bits at (at + n)) (sym pushed.1) c.in_ok-from-in-Some.ensures.on in
     let past = lists-past place bits so_far.0 c.loop-from.from at so_far.2 next.2 next.0 in (
       so_far.0 ++ more,
-      rows_run (thing_row its) (as_load c.loop-from.load.items) (as_load c.push_run.new.load.items) pushed.0 so_far.0 more so_far.1 (run_rows place its pushed.0 at pushed.2) pushed.3,
-      subst (λ n. ListsBelow place bits (at + n) (so_far.0 ++ more)) pushed.1 (lists-run place its bits (g.met.R.Places.in_order rows) pushed.0 so_far.0 at past pushed.2 on),
+      rows_run (thing_lies its blocks) (lie_as its c.loop-from.load.items) (lie_as its c.push_run.new.load.items) pushed.0 so_far.0 more so_far.1 (run_rows place its blocks pushed.0 at pushed.2) pushed.3,
+      subst (λ n. ListsBelow place bits (at + n) (so_far.0 ++ more)) pushed.1 (lists-run place its blocks bits (g.met.R.Places.in_order rows) pushed.0 so_far.0 at past pushed.2 on),
     )
 
 pub returns : goal.returns

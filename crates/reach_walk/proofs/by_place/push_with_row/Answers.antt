@@ -9,7 +9,7 @@ use Rattle.reach_walk.proofs.by_place.push_with_row.Goals as goal
 pub returns-in-Here : goal.returns-in-Here
 returns-in-Here c =
     let old : List (Thing × Told) = c.args.load.now.items in
-    let new : Thing × Told = (c.args.thing, Here c.args.row.now) in
+    let new : Thing × Told = (c.args.thing, Here c.args.values.now) in
     let there = c.index_mut.result.now in
     let items = c.push_reserved.ensures.items in
     let end : c.len-at.result ≡ length old = omega arith in

@@ -1,8 +1,9 @@
-use Rattle.std.proofs.Common.{◌≡◌, List, subst, ◌∙◌}
+use Rattle.std.proofs.Common.{◌≡◌, List, refl, subst, ◌∙◌}
 use Rattle.std.specs.Prelude.{IfOk}
 use Rattle.std.specs.FinMap as m
 use Rattle.orca_names.specs.declared.names.Thing.{Thing}
 use Rattle.orca_names.specs.declared.names.Value.{Value}
+use Rattle.row_store.proofs.Standing.{none_stand}
 use Rattle.reach_walk.specs.Marks.{TellMarks, marks_of}
 use Rattle.object_heap.specs.Heap.{Heap}
 use Rattle.foreign_table.specs.Span.{IsSpan}
@@ -13,8 +14,12 @@ use Rattle.local_sweep.proofs.SamePlan.{plan_by_bits}
 use Rattle.root_trace.specs.Own.{roots_in}
 use Rattle.root_trace.proofs.in_use.plan_in_use.Goals as goal
 
-pub returns : goal.returns
-returns c =
+-- no row lies in a block
+pub mark_bits-requires : goal.mark_bits-requires
+mark_bits-requires g c = none_stand _ _ _ (λ n. refl)
+
+pub returns-clause-plan : goal.returns-clause-plan
+returns-clause-plan g c =
     let known = c.of-rows.result in
     let bits = c.in_ok-marks.marks in
     let heap = c.of-rows.ensures.heap in

@@ -16,8 +16,8 @@ none_back : (marked : Thing → Bool) (heap : Heap) (t : Table) → t.entries �
 unfolding given_back by_owner
 none_back marked heap t none = ap (λ es. by_owner (map (λ e. (e.0, e.1.0)) (filter (λ e. not (marked e.0)) es))) (none_listed t.entries none)
 
-pub returns-in-None : goal.returns-in-None
-returns-in-None c =
+pub returns-in-None-clause-unused : goal.returns-in-None-clause-unused
+returns-in-None-clause-unused g c =
     let known = c.args.known.now in
     let in_use : Thing → Bool = is_reached (roots_in c.args.fields.now.values c.args.heap.now) c.args.heap.now (as_held known) in
     c.new.ensures ∙ sym (none_back in_use c.args.heap.now (as_held known) (held_none known c.in-None.ensures))

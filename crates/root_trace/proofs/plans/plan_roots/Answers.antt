@@ -1,8 +1,9 @@
-use Rattle.std.proofs.Common.{◌≡◌, List, ap, subst, ◌∙◌}
+use Rattle.std.proofs.Common.{◌≡◌, List, refl, ap, subst, ◌∙◌}
 use Rattle.std.specs.Prelude.{IfOk}
 use Rattle.std.specs.FinMap as m
 use Rattle.orca_names.specs.declared.names.Thing.{Thing}
 use Rattle.orca_names.specs.declared.names.Value.{Value}
+use Rattle.row_store.proofs.Standing.{none_stand}
 use Rattle.reach_walk.specs.Marks.{TellMarks, marks_of}
 use Rattle.object_heap.specs.Heap.{Heap, own_row}
 use Rattle.foreign_table.specs.Span.{IsSpan}
@@ -14,8 +15,12 @@ use Rattle.root_trace.specs.Own.{own_names, roots_in}
 use Rattle.root_trace.proofs.ByRoots.{marked_by_roots}
 use Rattle.root_trace.proofs.plans.plan_roots.Goals as goal
 
-pub returns : goal.returns
-returns c = λ cell fields rows.
+-- no row lies in a block
+pub mark_bits-requires : goal.mark_bits-requires
+mark_bits-requires g c = none_stand _ _ _ (λ n. refl)
+
+pub returns-clause-plan : goal.returns-clause-plan
+returns-clause-plan g c = λ cell fields rows.
     let known = c.of.result in
     let bits = c.in_ok-marks.marks in
     let heap = c.args.heap.now in

@@ -1,6 +1,6 @@
 use Rattle.std.proofs.Common.{◌≢◌, not, eqb, sym, ap, subst, ◌∙◌, arith}
 use Rattle.orca_names.specs.Names.{owner_of}
-use Rattle.row_store.specs.Told.{as_load}
+use Rattle.letter_kinds.specs.Load.{as_load}
 use Rattle.known_rows.specs.Holdings.{holdings_of}
 use Rattle.trace_send.specs.Can.{CanReceive}
 use Rattle.trace_send.proofs.Steps.{apart, held-is}

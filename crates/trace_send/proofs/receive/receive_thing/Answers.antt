@@ -1,6 +1,6 @@
 use Rattle.std.proofs.Common.{not, eqb, ◌≢◌, ◌-◌, sym, ap, ◌∙◌}
 use Rattle.orca_names.specs.Names.{owner_of}
-use Rattle.row_store.specs.Told.{as_loaded}
+use Rattle.letter_kinds.specs.Load.{as_loaded}
 use Rattle.known_rows.specs.Holdings.{holdings_of}
 use Rattle.trace_send.proofs.Steps.{apart, alike, fits-held, enough-actor, enough-object, counted-object, set-actor-at, set-object-at, receives_other, receives_own}
 use Rattle.trace_send.proofs.receive.receive_thing.Goals as goal

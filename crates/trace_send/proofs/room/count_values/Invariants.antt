@@ -1,5 +1,5 @@
 use Rattle.std.proofs.Common.{◌≡◌, ◌+◌, drop}
-use Rattle.row_store.specs.Told.{as_load}
+use Rattle.letter_kinds.specs.Load.{as_load}
 use Rattle.trace_send.specs.Room.{values_of}
 use Rattle.trace_send.proofs.room.count_values.Given as goal
 

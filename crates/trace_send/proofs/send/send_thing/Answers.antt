@@ -1,6 +1,6 @@
 use Rattle.std.proofs.Common.{not, eqb, ◌≢◌, ◌+◌, sym, ap, ◌∙◌}
 use Rattle.orca_names.specs.Names.{owner_of}
-use Rattle.row_store.specs.Told.{as_loaded}
+use Rattle.letter_kinds.specs.Load.{as_loaded}
 use Rattle.known_rows.specs.Holdings.{holdings_of}
 use Rattle.trace_send.proofs.Steps.{apart, alike, enough-held, there-held, fits-actor, fits-object, there-object, set-actor-at, set-object-at, sends_other, sends_own}
 use Rattle.trace_send.proofs.send.send_thing.Goals as goal

@@ -1,6 +1,6 @@
 use Rattle.std.proofs.Common.{◌<◌, ◌+◌, get_or, length, drop, sym, ap, ◌∙◌, subst, arith}
 use Rattle.std.proofs.lemmas.List.{drop_all}
-use Rattle.row_store.specs.Told.{as_load, as_loaded}
+use Rattle.letter_kinds.specs.Load.{as_load, as_loaded}
 use Rattle.letter_kinds.specs.Counting.{send}
 use Rattle.known_rows.specs.Holdings.{holdings_of}
 use Rattle.trace_send.specs.Can.{CanSend}

@@ -1,5 +1,5 @@
 use Rattle.std.proofs.Common.{◌≡◌, drop}
-use Rattle.row_store.specs.Told.{as_load}
+use Rattle.letter_kinds.specs.Load.{as_load}
 use Rattle.letter_kinds.specs.Counting.{send}
 use Rattle.known_rows.specs.Holdings.{holdings_of}
 use Rattle.trace_send.specs.Can.{CanSend}

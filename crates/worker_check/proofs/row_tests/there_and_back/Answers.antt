@@ -47,13 +47,13 @@ pub read-second-requires : goal.read-second-requires
 read-second-requires c = (
   c.args.other.now,
   c.put-3.ensures.row,
-  subst (HoldsRow 1 c.args.other.now) (sym c.read-first.ensures.same.0) (second_is_there _ _ _ c.put-3.ensures.known),
+  subst (HoldsRow 1 c.args.other.now) (sym c.read-first.ensures.same.known) (second_is_there _ _ _ c.put-3.ensures.known),
 )
 
 pub returns : goal.returns
 returns c = (
-  c.read-first.ensures.row c.args.one.now c.put.ensures.row
+  c.read-first.ensures.row c.args.one.now
       (first_stays _ _ _ _ _ _ c.put.ensures.row c.put-3.ensures.row c.put.ensures.known c.put-2.ensures.known c.put-3.ensures.known),
-  c.read-second.ensures.row c.args.other.now c.put-3.ensures.row
-      (subst (HoldsRow 1 c.args.other.now) (sym c.read-first.ensures.same.0) (second_is_there _ _ _ c.put-3.ensures.known)),
+  c.read-second.ensures.row c.args.other.now
+      (subst (HoldsRow 1 c.args.other.now) (sym c.read-first.ensures.same.known) (second_is_there _ _ _ c.put-3.ensures.known)),
 )

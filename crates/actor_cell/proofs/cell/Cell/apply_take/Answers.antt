@@ -1,6 +1,6 @@
 use Rattle.std.proofs.Common.{true, false, sym, subst, ap, ◌∙◌}
 use Rattle.letter_kinds.specs.Letters.{as_letter}
-use Rattle.row_store.specs.Told.{as_load}
+use Rattle.letter_kinds.specs.Load.{as_load}
 use Rattle.letter_kinds.specs.Counting.{lower_all, raise_all, receive}
 use Rattle.known_rows.specs.Holdings.{holdings_of}
 use Rattle.trace_send.specs.Can.{CanLower, CanRaise}

@@ -6,11 +6,11 @@ use Rattle.machine_rules.specs.Collect.{is_marked_deep}
 use Rattle.actor_cell.proofs.Marked.{marks_same}
 use Rattle.actor_cell.proofs.cell.Cell.find_deep.Goals as goal
 
-pub returns : goal.returns
+pub returns-clause-sweep : goal.returns-clause-sweep
 unfolding is_marked_deep
-returns c =
+returns-clause-sweep g c =
     let s = c.args.self.now in
     λ i. record {
-      plan = (c.in_ok-plan.ensures ∙ ap (λ marks. plan_of (λ x. list_any (is_thing x) marks) s.heap s.foreign) (marks_same s.count s.heap s.foreign s.fields.values)) i;
+      plan = (c.in_ok-plan.ensures.plan ∙ ap (λ marks. plan_of (λ x. list_any (is_thing x) marks) s.heap s.foreign) (marks_same s.count s.heap s.foreign s.fields.values)) i;
       unused = c.new.ensures i;
     }

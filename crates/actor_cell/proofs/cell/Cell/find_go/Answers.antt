@@ -15,7 +15,7 @@ use Rattle.actor_cell.proofs.Registers.{segment_fits}
 use Rattle.actor_cell.proofs.cell.Cell.find_go.Goals as goal
 
 pub move_of-requires : goal.move_of-requires
-move_of-requires c =
+move_of-requires g c =
     let s = c.args.self.now in
     let code = c.args.code.now in
     let frame = c.in-Some.frame.now in
@@ -27,7 +27,7 @@ move_of-requires c =
     (subst IsChecked c.program-program.ensures.value c.program-program.ensures.kept))
 
 pub returns-in_ok-move_of-in-Stops-clause-found : goal.returns-in_ok-move_of-in-Stops-clause-found
-returns-in_ok-move_of-in-Stops-clause-found c =
+returns-in_ok-move_of-in-Stops-clause-found g c =
     let s = c.args.self.now in
     let code = c.args.code.now in
     let me = s.heap.owner in
@@ -39,11 +39,11 @@ returns-in_ok-move_of-in-Stops-clause-found c =
     let stop : Stop = record { act = act_of c.in-Stops.stop.deed turn; place = place; turn = turn } in
     let halts = subst (λ halt. HaltsAt first its_stop halt turn) c.in-Stops.is c.in-Ok.ensures.halt in
     let does = act_in c.move_of.new.found in
-    let may = c.in_ok-move_of-in-Stops.ensures.awaited (ap (λ (t : Turned). t.awaited) c.forget_letter.ensures) in
+    let may = c.in_ok-move_of-in-Stops.ensures.finds.awaited (ap (λ (t : Turned). t.awaited) c.forget_letter.ensures) in
     let tells : IsTold c.args.options code me (as_cell s) turn place does frame =
     (λ i. turned_or_needs c.args.options me (as_cell s) frame (halts.0 i) (halts.1 i))
     ∙ moves_told frame (as_cell s) turn place c.args.options me (having_made turn.made (as_cell s)) stop.act
-    ∙ ap (told frame (as_cell s) turn place) (sym c.in_ok-move_of-in-Stops.ensures.act)
+    ∙ ap (told frame (as_cell s) turn place) (sym c.in_ok-move_of-in-Stops.ensures.finds.act)
     in
     record {
       told = subst (λ f. IsSomeAnd f (IsTold c.args.options code me (as_cell s) turn place does)) c.in-Some.ensures tells;
@@ -62,7 +62,7 @@ returns-in_ok-move_of-in-Stops-clause-found c =
     }
 
 pub returns-in_ok-needing-in-Needs-clause-found : goal.returns-in_ok-needing-in-Needs-clause-found
-returns-in_ok-needing-in-Needs-clause-found c =
+returns-in_ok-needing-in-Needs-clause-found g c =
     let s = c.args.self.now in
     let code = c.args.code.now in
     let me = s.heap.owner in
@@ -85,7 +85,7 @@ returns-in_ok-needing-in-Needs-clause-found c =
     }
 
 pub returns-in-Some-rests_at-clause-found : goal.returns-in-Some-rests_at-clause-found
-returns-in-Some-rests_at-clause-found c =
+returns-in-Some-rests_at-clause-found g c =
     let s = c.args.self.now in
     let code = c.args.code.now in
     let me = s.heap.owner in

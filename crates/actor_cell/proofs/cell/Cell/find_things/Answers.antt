@@ -6,8 +6,8 @@ use Rattle.actor_cell.specs.Goes.{things_from}
 use Rattle.actor_cell.proofs.Posting.{roots_are}
 use Rattle.actor_cell.proofs.cell.Cell.find_things.Goals as goal
 
-pub returns-in-Roots : goal.returns-in-Roots
-returns-in-Roots c =
+pub returns-in-Roots-clause-things : goal.returns-in-Roots-clause-things
+returns-in-Roots-clause-things g c =
     let s = c.args.self.now in
     let me = s.heap.owner in
     let h = with_made c.args.made.now (as_cell s).holdings in

@@ -10,7 +10,7 @@ use Rattle.actor_cell.proofs.Telling.{told_gone}
 use Rattle.actor_cell.proofs.cell.Cell.go.Goals as goal
 
 pub returns-clause-gone : goal.returns-clause-gone
-returns-clause-gone c = by c.args.self.now.frame refl c.in_ok-find_go.ensures.found.told
+returns-clause-gone g c = by c.args.self.now.frame refl c.in_ok-find_go.ensures.found.told
   where
     by : (frame : Option Frame) → c.args.self.now.frame ≡ frame
         → IsSomeAnd frame (IsTold (record { weight = c.args.weight; trace = c.args.trace }) c.args.code.now c.args.self.now.heap.owner (as_cell c.args.self.now)

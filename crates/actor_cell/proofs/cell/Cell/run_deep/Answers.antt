@@ -1,15 +1,21 @@
-use Rattle.std.proofs.Common.{sym, ◌∙◌, refl}
+use Rattle.std.proofs.Common.{ap, sym, ◌∙◌, refl}
 use Rattle.orca_names.specs.declared.names.ObjName.{ObjName}
+use Rattle.row_store.proofs.Standing.{none_stand}
 use Rattle.turn_rules.specs.Segment.{segment_of}
+use Rattle.known_rows.specs.Known.{row_known}
+use Rattle.known_rows.specs.declared.known.KnownRows.{KnownRows}
 use Rattle.turn_step.specs.Turns.{setting_in}
 use Rattle.actor_cell.proofs.Brought.{found_deep}
 use Rattle.actor_cell.proofs.cell.Cell.run_deep.Goals as goal
 
+pub of-rows-requires : goal.of-rows-requires
+of-rows-requires g c = none_stand _ _ _ (λ n. refl)
+
 pub returns-in-Ok-clause-halt : goal.returns-in-Ok-clause-halt
-returns-in-Ok-clause-halt c =
+returns-in-Ok-clause-halt g c =
     let s = c.args.self.now in
     let code = c.args.code.now in
     let frame = c.args.frame.now in (
       refl,
-      (λ i. segment_of (setting_in code (sym c.owner-me.ensures i) (sym c.made-base.ensures i) (λ n. sym (found_deep s n) i)) frame s.fields) ∙ c.in-Ok.ensures.ok,
+      (λ i. segment_of (setting_in code (sym c.owner-me.ensures i) (sym c.made-base.ensures i) (λ n. (sym (found_deep s n) ∙ ap (λ (r : KnownRows). row_known r.heap.now r.foreign.now n) (sym c.of-rows.ensures.rows)) i)) frame s.fields) ∙ c.in-Ok.ensures.ok,
     )

@@ -4,8 +4,8 @@ use Rattle.actor_cell.specs.Moves.{Post}
 use Rattle.actor_cell.proofs.Posting.{done_first}
 use Rattle.actor_cell.proofs.go.Sending.find_found.Goals as goal
 
-pub returns-in-Some : goal.returns-in-Some
-returns-in-Some c =
+pub returns-in-Some-clause-letter : goal.returns-in-Some-clause-letter
+returns-in-Some-clause-letter g c =
     let s = c.args.self.now in
     let args = c.args.found.now.args in
     let is = sym c.in-Some.is ∙ c.in_ok-minted.ensures s.cell.now.count s.cell.now.heap in
@@ -15,14 +15,14 @@ returns-in-Some c =
       place = refl;
     }
 
-pub returns-in_ok-found-in-None-2 : goal.returns-in_ok-found-in-None-2
-returns-in_ok-found-in-None-2 c =
+pub returns-in_ok-found-in-None-2-clause-letter : goal.returns-in_ok-found-in-None-2-clause-letter
+returns-in_ok-found-in-None-2-clause-letter g c =
     let s = c.args.self.now in
     let args = c.args.found.now.args in
     let is = sym c.in-None.is ∙ c.in_ok-minted.ensures s.cell.now.count s.cell.now.heap in
-    let load = c.in_ok-found-in-None.ensures args (c.as_slice-in-None.ensures ∙ c.requires) in
+    let load = c.in_ok-found-in-None.ensures.load args (c.as_slice-in-None.ensures ∙ c.requires) in
     record {
-      act = (λ i. Post s.to (App s.behaviour args (load i) (c.in_ok-found-in-None-2.ensures i)))
+      act = (λ i. Post s.to (App s.behaviour args (load i) (c.in_ok-found-in-None-2.ensures.rows i)))
           ∙ done_first s args c.owner-me.result c.owner-me.ensures c.as_slice.result.now (c.as_slice.ensures ∙ c.requires) None is;
       awaited = search rules;
       place = refl;

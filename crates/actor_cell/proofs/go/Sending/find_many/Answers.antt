@@ -1,14 +1,14 @@
 use Rattle.std.proofs.Common.{rules, Some, map, sym, ap, ◌∙◌, refl}
-use Rattle.row_store.specs.Told.{as_load}
+use Rattle.letter_kinds.specs.Load.{as_load}
 use Rattle.letter_kinds.specs.Counting.{Loaded}
 use Rattle.actor_cell.proofs.Posting.{done_first, loaded_deeply, sent_deeply}
 use Rattle.actor_cell.proofs.go.Sending.find_many.Goals as goal
 
 pub returns-then-not-lacks_any-clause-done : goal.returns-then-not-lacks_any-clause-done
-returns-then-not-lacks_any-clause-done c = λ _.
+returns-then-not-lacks_any-clause-done g c = λ _.
     let s = c.args.self.now in
     let args = c.args.found.now.args in
-    let loads = loaded_deeply s args c.requires c.in_ok-load.field-0 c.in-Some.load c.in-Some.is c.in_ok-load.ensures in
+    let loads = loaded_deeply s args c.requires c.in_ok-load.field-0 c.in-Some.load c.in-Some.is c.in_ok-load.ensures.load in
     let any = sym c.if-not-lacks_any.true ∙ c.lacks_any.ensures s.cell.now.count s.cell.now.heap in
     record {
       act = sent_deeply s args c.requires c.owner-me.result c.owner-me.ensures (as_load c.in-Some.load) (as_load c.new.result) loads (ap as_load c.new.ensures) any;
@@ -17,10 +17,10 @@ returns-then-not-lacks_any-clause-done c = λ _.
     }
 
 pub returns-clause-done : goal.returns-clause-done
-returns-clause-done c = λ _.
+returns-clause-done g c = λ _.
     let s = c.args.self.now in
     let args = c.args.found.now.args in
-    let loads = loaded_deeply s args c.requires c.in_ok-load.field-0 c.in-Some.load c.in-Some.is c.in_ok-load.ensures in
+    let loads = loaded_deeply s args c.requires c.in_ok-load.field-0 c.in-Some.load c.in-Some.is c.in_ok-load.ensures.load in
     let things = c.as_slice.ensures ∙ c.in_ok-loaded.ensures ∙ ap (map (λ (e : Loaded). e.0)) loads in
     let is = sym c.in-Some-minted.is ∙ c.in_ok-minted.ensures s.cell.now.count s.cell.now.heap in
     record {

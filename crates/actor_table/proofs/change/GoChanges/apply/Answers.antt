@@ -1,5 +1,5 @@
 use Rattle.std.proofs.Common.{ap, rules}
-use Rattle.row_store.specs.Told.{as_load}
+use Rattle.letter_kinds.specs.Load.{as_load}
 use Rattle.actor_cell.specs.Moves.{act_in, move_of}
 use Rattle.actor_table.proofs.Naming.{can_name}
 use Rattle.actor_table.proofs.change.GoChanges.apply.Goals as goal

@@ -4,7 +4,7 @@ use Rattle.std.specs.FinMap as m
 use Rattle.orca_names.specs.Names.{thing_cmp}
 use Rattle.letter_kinds.specs.Holdings.{Row}
 use Rattle.plain_list.specs.Rising.{IsAt, IsGap}
-use Rattle.row_store.specs.Told.{told_row}
+use Rattle.row_store.specs.Told.{row_here}
 use Rattle.foreign_table.specs.Entry.{amount_of, as_row, pair_of, row_in}
 use Rattle.foreign_table.specs.Table.{Table, count_on, entered, entries_in, row_length}
 use Rattle.foreign_table.proofs.Entries.{as_row_length, blank, count_there, entered_absent, entered_present, found, itself, key_found, new_entries, none_at, place_within, row_in_length, set_entries}
@@ -66,7 +66,7 @@ returns-in-Ok c =
     let i = c.in-Ok.i in
     let h = c.self.invariant.0 in
     let row = c.told_values.result.now in
-    let told = told_row c.args.told.now in
+    let told = row_here c.args.told.now in
     let new = c.raise.new in
     let p = subst (λ es. IsAt thing_cmp (map amount_of es) x i) c.as_slice.ensures.value c.in-Ok.ensures in
     let e = get_or es i (blank x) in
@@ -100,7 +100,7 @@ returns-in-Err c =
     let i = c.in-Err.i in
     let h = c.self.invariant.0 in
     let row = c.told_values-in-Err.result.now in
-    let told = told_row c.args.told.now in
+    let told = row_here c.args.told.now in
     let new = c.put_entry.new in
     let p = subst (λ es. IsGap thing_cmp (map amount_of es) x i) c.as_slice.ensures.value c.in-Err.ensures in
     let entries = (new_entries vs new.values.items es new.held.items h x i (c.args.by, as_row row) p c.put_entry.ensures.pairs).1

@@ -1,8 +1,10 @@
-use Rattle.std.proofs.Common.{◌≡◌, ◌+◌, ◌-◌, ◌≤◌, Some, slice_get, sym, ap, ◌∙◌, arith}
+use Rattle.std.proofs.Common.{◌≡◌, ◌+◌, ◌-◌, ◌≤◌, None, Some, slice_get, refl, sym, ap, subst, ◌∙◌, arith}
 use Rattle.std.specs.Prelude.{option_map}
 use Rattle.std.specs.FinMap as m
 use Rattle.std.proofs.lemmas.Option.{slice_get-map}
 use Rattle.orca_names.specs.declared.names.Thing.TheVariants.{Actor, Obj}
+use Rattle.row_store.specs.Lent.{IsLent}
+use Rattle.row_store.specs.Told.{thing_block}
 use Rattle.known_rows.specs.Places.{place_in}
 use Rattle.known_rows.proofs.Placed.{count_is, keys_count, place_above, place_below, place_of_owner, place_own, rowed_above, rowed_below, rowed_own}
 use Rattle.known_rows.proofs.places.KnownPlaces.entry_there.Goals as goal
@@ -20,8 +22,12 @@ returns-then-at-self-clause-thing c =
 pub returns-then-at-self-clause-row : goal.returns-then-at-self-clause-row
 returns-then-at-self-clause-row c =
     let s = c.args.self.now in
+    subst (λ row. IsLent row (thing_block (λ _. None) c.held_entry.result.0) c.held_entry.result.1)
+    (rowed_below s.rows.heap.now s.rows.foreign.now s.first s.end s.span c.args.at c.held_entry.result.0 c.held_entry.ensures.thing c.if-at-self.true)
     c.held_entry.ensures.row
-    ∙ rowed_below s.rows.heap.now s.rows.foreign.now s.first s.end s.span c.args.at c.held_entry.result.0 c.held_entry.ensures.thing c.if-at-self.true
+
+pub returns-then-at-self-2-clause-row : goal.returns-then-at-self-2-clause-row
+returns-then-at-self-2-clause-row c = (refl, refl)
 
 pub returns-then-at-self-2-clause-thing : goal.returns-then-at-self-2-clause-thing
 returns-then-at-self-2-clause-thing c =
@@ -41,8 +47,8 @@ returns-then-at-self-3-clause-thing c =
 pub returns-then-at-self-3-clause-row : goal.returns-then-at-self-3-clause-row
 returns-then-at-self-3-clause-row c =
     let s = c.args.self.now in
-    ap Some c.as_slice.ensures.value
-    ∙ rowed_own s.rows.heap.now s.rows.foreign.now c.at-n.result.0 (c.args.at - s.first - 1) c.at-n.result.1.now c.at-n.result.2 c.at-n.ensures.owner c.at-n.ensures.entry
+    let row = rowed_own s.rows.heap.now s.rows.foreign.now c.at-n.result.0 (c.args.at - s.first - 1) c.at-n.result.1.now c.at-n.result.2 c.at-n.ensures.owner c.at-n.ensures.entry in
+    (sym (ap Some c.as_slice.ensures.value ∙ row), refl, c.as_slice.ensures.room.0, c.as_slice.ensures.room.1)
 
 pub overflow_add-at : goal.overflow_add-at
 overflow_add-at c =
@@ -69,5 +75,6 @@ returns-clause-row c =
     let s = c.args.self.now in
     let j = c.args.at - s.above + s.end in
     let behind : s.end ≤ j = omega arith in
+    subst (λ row. IsLent row (thing_block (λ _. None) c.held_entry-2.result.0) c.held_entry-2.result.1)
+    (rowed_above s.rows.heap.now s.rows.foreign.now s.first s.end s.span j c.held_entry-2.result.0 c.held_entry-2.ensures.thing behind)
     c.held_entry-2.ensures.row
-    ∙ rowed_above s.rows.heap.now s.rows.foreign.now s.first s.end s.span j c.held_entry-2.result.0 c.held_entry-2.ensures.thing behind

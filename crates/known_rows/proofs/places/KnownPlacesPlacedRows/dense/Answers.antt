@@ -1,4 +1,4 @@
-use Rattle.std.proofs.Common.{length, refl, sym, ◌∙◌, ap, arith}
+use Rattle.std.proofs.Common.{length, refl, ap, arith}
 use Rattle.known_rows.proofs.Placed.{lower_count}
 use Rattle.known_rows.proofs.Together.{objects_count, own_together}
 use Rattle.known_rows.proofs.places.KnownPlacesPlacedRows.dense.Goals as goal

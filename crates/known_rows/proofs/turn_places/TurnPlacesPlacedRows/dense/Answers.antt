@@ -1,4 +1,3 @@
-use Rattle.std.proofs.Common.{sym, ◌∙◌}
 use Rattle.known_rows.proofs.Together.{turn_together}
 use Rattle.known_rows.proofs.turn_places.TurnPlacesPlacedRows.dense.Goals as goal
 

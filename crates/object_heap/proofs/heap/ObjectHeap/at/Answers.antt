@@ -1,7 +1,7 @@
 use Rattle.std.proofs.Common.{◌≡◌, ◌<◌, [], length, slice_get, Some, sym, ap, ◌∙◌, arith}
 use Rattle.std.specs.Prelude.{is_some, unwrap_or}
 use Rattle.std.specs.FinMap as m
-use Rattle.row_store.specs.Told.{told_row}
+use Rattle.row_store.specs.Told.{row_here}
 use Rattle.object_heap.specs.Entry.{joined}
 use Rattle.object_heap.proofs.Entries.{len_here, entry_here}
 use Rattle.object_heap.proofs.Kept.{keys_long, object_at, objects_long}
@@ -33,7 +33,7 @@ row_there-requires c =
     let f = ap (λ h. m.len h.rows) c.self.view_is in
     let l : c.args.i < length all = omega arith in
     let its = object_at s.owner s.keys.items s.objects.items all c.self.invariant.kept c.args.i l in
-    ap (λ x. is_some (told_row x.1)) (its.3 c.index.result.now c.index.ensures)
+    ap (λ x. is_some (row_here x.1)) (its.3 c.index.result.now c.index.ensures)
 
 pub returns-clause-entry : goal.returns-clause-entry
 returns-clause-entry c =
@@ -46,7 +46,7 @@ returns-clause-entry c =
     let key = its.2 c.index-key.result.now c.index-key.ensures in
     let serial : its.0.serial ≡ c.of.result = sym (c.of.ensures ∙ ap (λ k. k.serial) key) in
     let count : its.0.count ≡ c.get.result = sym (c.get.ensures.count ∙ ap (λ k. k.count) key) in
-    let row : its.0.row ≡ c.row_there.result.now = ap (λ o. unwrap_or o []) (sym (ap (λ x. told_row x.1) (its.3 c.index.result.now c.index.ensures)) ∙ c.row_there.ensures) in
+    let row : its.0.row ≡ c.row_there.result.now = ap (λ o. unwrap_or o []) (sym (ap (λ x. row_here x.1) (its.3 c.index.result.now c.index.ensures)) ∙ c.row_there.ensures) in
     ap (λ h. slice_get (m.entries h.rows) c.args.i) (sym c.self.view_is)
     ∙ entry_here s.next all c.self.invariant.own c.args.i its.0 l its.1
     ∙ (λ j. Some (serial j, (row j, count j)))
