@@ -11,7 +11,8 @@ use Rattle.machine_rules.specs.State.{State, first_state}
 use Rattle.count_laws.proofs.gone.Staying.{gone_stays, names_stay}
 use Rattle.count_laws.specs.Gone.{HasName}
 use Rattle.machine_laws.proofs.WholeRuns.{never_early}
-use Rattle.row_laws.specs.Blocks.{Blocks, LeadsWithBlocks, blocks_after, is_left}
+use Rattle.block_table.specs.Blocks.{Blocks}
+use Rattle.row_laws.specs.Blocks.{LeadsWithBlocks, blocks_after, is_left}
 use Rattle.row_laws.specs.Laws.{HasBlocks, LeftKeepsBlock, NamedKeepsBlock, RowRunsAreRuns}
 use Rattle.row_laws.proofs.Keeping.{blocks_stay, left_from, left_to, starts_free}
 

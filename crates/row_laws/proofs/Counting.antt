@@ -16,9 +16,10 @@ use Rattle.orca_names.specs.declared.names.ObjName.{ObjName}
 use Rattle.orca_names.specs.declared.names.Thing.TheVariants.{Obj}
 use Rattle.letter_kinds.specs.Holdings.{Holdings, has_own}
 use Rattle.machine_rules.specs.Actors.{Actors, Seat, seat_at}
-use Rattle.row_laws.specs.Blocks.{AreBlocksOf, Blocks, count_free, objects_left, rows_at}
+use Rattle.block_table.specs.Blocks.{Blocks, count_free}
+use Rattle.row_laws.specs.Blocks.{AreBlocksOf, objects_left, rows_at}
 use Rattle.row_laws.specs.Laws.{FreeAreTheRest, LackIsCounted}
-use Rattle.row_laws.proofs.Filling.{Once}
+use Rattle.block_table.proofs.Filling.{Once}
 
 -- ---- keys of a map are apart
 

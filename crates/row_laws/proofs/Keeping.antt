@@ -14,9 +14,11 @@ use Rattle.machine_rules.specs.Actors.{Actors, Seat, seat, seat_at}
 use Rattle.machine_rules.specs.Left.{IsLeft}
 use Rattle.count_laws.proofs.gone.Staying.{stays}
 use Rattle.count_laws.specs.Gone.{HasName}
-use Rattle.row_laws.specs.Blocks.{AreBlocksOf, Blocks, count_free, fill, free_blocks, is_left, kept_of, made_by}
+use Rattle.block_table.specs.Blocks.{Blocks, count_free, fill, free_blocks}
+use Rattle.row_laws.specs.Blocks.{AreBlocksOf, is_left, kept_of, made_by}
 use Rattle.row_laws.specs.Laws.{BlocksStay, NoBlockIsTakenEarly, StartsFree}
-use Rattle.row_laws.proofs.Filling.{Among, Once, fill_all, fill_cases, fill_old, fill_once, fill_size, kept_cases, kept_here, kept_room}
+use Rattle.block_table.proofs.Filling.{Among, Once, fill_all, fill_cases, fill_old, fill_once, fill_size}
+use Rattle.row_laws.proofs.Filling.{kept_cases, kept_here, kept_room}
 use Rattle.row_laws.proofs.Steps.{Moves, bare, moves}
 
 -- what is left is told so, and what is told so is left

@@ -1,9 +1,10 @@
 -- Which block each object's row has.
-use Rattle.std.specs.Prelude.{ℕ, zero, suc, ◌+◌, ◌-◌, ◌<◌, ◌≤◌, ◌≡◌, Bool, false, if◌then◌else◌, List, [], ◌∷◌, length, map, replicate, slice_get, Option, Some, None}
+use Rattle.std.specs.Prelude.{ℕ, zero, suc, ◌+◌, ◌-◌, ◌<◌, ◌≤◌, ◌≡◌, Bool, false, if◌then◌else◌, List, [], ◌∷◌, length, map, slice_get, Option, Some, None}
 use Rattle.std.specs.FinMap as m
 use Rattle.std.specs.Option.{option_map_or}
 use Rattle.orca_names.specs.declared.names.ObjName.{ObjName}
 use Rattle.orca_names.specs.declared.names.Thing.TheVariants.{Obj}
+use Rattle.block_table.specs.Blocks.{Blocks, count_free, fill, free_blocks}
 use Rattle.behaviour_code.specs.declared.code.Program.{Program}
 use Rattle.event_rule.specs.Runs.{Goes}
 use Rattle.event_rule.specs.declared.event.Event.{Event}
@@ -14,14 +15,6 @@ use Rattle.machine_rules.specs.Left.{IsLeft}
 use Rattle.machine_rules.specs.Next.{next}
 use Rattle.machine_rules.specs.Options.{Options}
 use Rattle.machine_rules.specs.State.{State, first_state}
-
--- for each block the object whose row lies in it; none where it is free
-abbrev pub Blocks : Type 0
-Blocks = List (Option ObjName)
-
--- so many blocks, all of them free
-abbrev pub free_blocks : ℕ → Blocks
-free_blocks count = replicate count None
 
 -- ---- the objects that an event makes
 
@@ -53,28 +46,11 @@ abbrev pub kept_of : Actors → Option ObjName → Option ObjName
 kept_of actors None = None
 kept_of actors (Some n) = if is_left actors n then Some n else None
 
--- these take the lowest free blocks, in their order
-unfoldable pub fill : List ObjName → Blocks → Blocks
-fill [] blocks = blocks
-fill (n ∷ ns) [] = []
-fill (n ∷ ns) (None ∷ blocks) = Some n ∷ fill ns blocks
-fill (n ∷ ns) (Some m ∷ blocks) = Some m ∷ fill (n ∷ ns) blocks
-
 -- what is left keeps its block, and what the event made takes those that are free then
 abbrev pub blocks_after : State → Event → State → Blocks → Blocks
 blocks_after s e t blocks = fill (made_by s e t) (map (kept_of t.actors) blocks)
 
 -- ---- room
-
--- one where the block is free
-abbrev pub is_free : Option ObjName → ℕ
-is_free None = 1
-is_free (Some n) = 0
-
--- how many blocks are free
-abbrev pub count_free : Blocks → ℕ
-count_free [] = 0
-count_free (b ∷ blocks) = is_free b + count_free blocks
 
 -- how many objects an actor has, none where it is gone
 abbrev pub rows_at : Option Seat → ℕ

@@ -15,7 +15,8 @@ use Rattle.machine_rules.specs.Run.{IsRun}
 use Rattle.machine_rules.specs.State.{State, first_state}
 use Rattle.count_laws.specs.Gone.{HasName}
 use Rattle.count_laws.specs.Named.{IsNamedBy, NamesNothingFreed}
-use Rattle.row_laws.specs.Blocks.{AreBlocksOf, Blocks, Fits, IsRowRun, LacksBlocks, LeadsWithBlocks, blocks_after, count_free, free_blocks, made_by, objects_left}
+use Rattle.block_table.specs.Blocks.{Blocks, count_free, free_blocks}
+use Rattle.row_laws.specs.Blocks.{AreBlocksOf, Fits, IsRowRun, LacksBlocks, LeadsWithBlocks, blocks_after, made_by, objects_left}
 
 -- the name of each object that is left was given
 abbrev pub AreNamed : Actors → Type 0

@@ -2,6 +2,8 @@
 #![tactic(auto)]
 
 #[cfg(test)]
+mod block_table_tests;
+#[cfg(test)]
 mod cases;
 #[cfg(test)]
 mod count_tests;
