@@ -15,7 +15,7 @@ use Rattle.known_rows.specs.Holdings.{holdings_of}
 use Rattle.known_rows.specs.Known.{row_known, row_known-row_of}
 use Rattle.local_sweep.specs.Marked.{is_reached}
 use Rattle.row_table.specs.Table.{Rows, as_held, bare_entry, uncounted}
-use Rattle.row_table.proofs.Mapped.{entries-mapped, get-mapped}
+use Rattle.foreign_table.proofs.Mapped.{entries-mapped, get-mapped}
 use Rattle.root_trace.specs.Own.{roots_in}
 use Rattle.machine_rules.specs.Cell as rules
 use Rattle.machine_rules.specs.Cell.{listed_objects, row_by, row_by_roots}
@@ -27,7 +27,7 @@ use Rattle.actor_cell.specs.Goes.{having_made}
 use Rattle.actor_cell.proofs.Marked.{marks_same}
 
 brought_row : (known : Rows) (x : Thing) → entry_row (m.get (uncounted known) x) ≡ m.get known x
-brought_row known x = ap entry_row (get-mapped bare_entry known x) ∙ same (m.get known x)
+brought_row known x = ap entry_row (get-mapped (λ x. bare_entry) known x) ∙ same (m.get known x)
   where
     same : (o : Option Row) → entry_row (option_map bare_entry o) ≡ o
     same None = refl
@@ -48,7 +48,7 @@ module _ (me : ℕ) (c : rules.Cell) (h : Holdings) (own : h.rows ≡ c.holdings
   pub names_brought : known_objects me h ≡ listed_objects me c
   unfolding known_objects listed_objects
   names_brought = λ i. map (λ e. record { owner = me; serial = e.0 }) (m.entries (own i))
-      ++ (ap (λ t. filter_map (λ e. object_name e.0) (m.entries t)) brought ∙ ap (filter_map (λ e. object_name e.0)) (entries-mapped bare_entry c.known) ∙ named_same (m.entries c.known)) i
+      ++ (ap (λ t. filter_map (λ e. object_name e.0) (m.entries t)) brought ∙ ap (filter_map (λ e. object_name e.0)) (entries-mapped (λ x. bare_entry) c.known) ∙ named_same (m.entries c.known)) i
 
 module _ (c : Cell) where
   -- what is found in the tables is what the actor has

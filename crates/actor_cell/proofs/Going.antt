@@ -1,31 +1,41 @@
 -- What a go leads to, step by step.
-use Rattle.std.proofs.Common.{◌≡◌, ℕ, suc, ◌+◌, ◌-◌, Some, List, [], ◌∷◌, length, ap, ◌∙◌, arith}
+use Rattle.std.proofs.Common.{◌≡◌, ℕ, suc, ◌+◌, ◌-◌, Option, None, Some, List, [], ◌∷◌, length, map, ap, ◌∙◌, arith}
 use Rattle.turn_rules.specs.declared.act.Frame.{Frame}
 use Rattle.turn_rules.specs.Segment.{Turn}
 use Rattle.letter_kinds.specs.Letters.{Letter}
 use Rattle.letter_kinds.specs.Counting.{send}
 use Rattle.letter_kinds.specs.Holdings.{Row, add_rows}
-use Rattle.object_heap.specs.Heap.{Heap, with_new}
+use Rattle.object_heap.specs.Heap.{Heap, add_blocks, with_new}
 use Rattle.machine_rules.specs.Cell.{Cell}
 use Rattle.actor_cell.specs.Moves.{Post}
 use Rattle.actor_cell.specs.Goes.{cell_by, cell_kept, frame_left, load_in}
 
 -- ---- rows that were made, one by one
 
-pub with_new-nil : (h : Heap) → with_new [] h ≡ h
-unfolding add_rows
+-- none of these lies in a block
+abbrev pub nowhere : List Row → List (Option ℕ)
+nowhere made = map (λ _. None) made
+
+pub with_new-nil : (h : Heap) → with_new [] [] h ≡ h
+unfolding add_rows add_blocks
 with_new-nil h =
     let next : h.next + 0 ≡ h.next = omega arith in
     let spare : h.spare - 0 ≡ h.spare = omega arith in
     λ i. record h { next = next i; spare = spare i }
 
-pub with_new-cons : (row : Row) (made : List Row) (h : Heap) → with_new made (with_new (row ∷ []) h) ≡ with_new (row ∷ made) h
-unfolding add_rows
-with_new-cons row made h =
+pub with_new-cons : (row : Row) (block : Option ℕ) (made : List Row) (blocks : List (Option ℕ)) (h : Heap)
+    → with_new made blocks (with_new (row ∷ []) (block ∷ []) h) ≡ with_new (row ∷ made) (block ∷ blocks) h
+unfolding add_rows add_blocks
+with_new-cons row block made blocks h =
     let next : (h.next + 1) + length made ≡ h.next + suc (length made) = omega arith in
     let spare : (h.spare - 1) - length made ≡ h.spare - suc (length made) = omega arith in
     let first : h.next + 1 ≡ suc h.next = omega arith in
-    λ i. record h { next = next i; spare = spare i; rows = ap (λ n. add_rows n made (add_rows h.next (row ∷ []) h.rows)) first i }
+    λ i. record h {
+      next = next i;
+      spare = spare i;
+      rows = ap (λ n. add_rows n made (add_rows h.next (row ∷ []) h.rows)) first i;
+      blocks = ap (λ n. add_blocks n blocks (add_blocks h.next (block ∷ []) h.blocks)) first i;
+    }
 
 -- ---- what is done, step by step
 

@@ -1,7 +1,9 @@
 pub mod Brought
 pub mod GoParts
 pub mod Going
+pub mod Here
 pub mod Learnt
+pub mod Loading
 pub mod Marked
 pub mod Needing
 pub mod Parts

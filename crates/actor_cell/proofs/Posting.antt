@@ -10,7 +10,7 @@ use Rattle.orca_names.specs.declared.trace.Trace.TheVariants.{Deep, Roots}
 use Rattle.reach_walk.specs.Marks.{load_of, marks_of}
 use Rattle.reach_walk.specs.Reach.{thing_row}
 use Rattle.letter_kinds.specs.Load.{as_load}
-use Rattle.row_store.specs.declared.told.Told.{Told}
+use Rattle.row_store.specs.Told.{Lying}
 use Rattle.letter_kinds.specs.Letters.{App}
 use Rattle.letter_kinds.specs.Counting.{Amount, Loaded, is_lacking, lacking_of, to_mint}
 use Rattle.letter_kinds.specs.Holdings.{Holdings, Row, held_in, known_objects, row_of, with_made}
@@ -138,7 +138,7 @@ module _ (s : Sending) (args : List Value) where
       ∙ done_is (lacking_of me h load)
 
   module _ (deep : s.options.trace ≡ Deep) where
-    pub loaded_deeply : (o : Option (List (Thing × Told))) (found : List (Thing × Told)) → o ≡ Some found → IfSome o (λ l. as_load l ≡ load_from Deep me (with_made s.made.now h) args) → as_load found ≡ load
+    pub loaded_deeply : (o : Option (List (Thing × Lying))) (found : List (Thing × Lying)) → o ≡ Some found → IfSome o (λ l. as_load l ≡ load_from Deep me (with_made s.made.now h) args) → as_load found ≡ load
     loaded_deeply o found is all = subst (λ o. IfSome o (λ l. as_load l ≡ load)) is (subst (λ t. IfSome o (λ l. as_load l ≡ load_from t me (with_made s.made.now h) args)) (sym deep) all)
 
     pub sent_deeply : (a : ℕ) → a ≡ me → (found carried : List Loaded) → found ≡ load → carried ≡ [] → false ≡ list_any (λ (e : Loaded). is_lacking a h e.0) found

@@ -11,7 +11,8 @@ use Rattle.foreign_table.proofs.BackLemmas.{all_stay}
 use Rattle.known_rows.specs.Holdings.{holdings_of}
 use Rattle.local_sweep.proofs.GivenBack.{back_rises, kept_entries}
 use Rattle.row_table.specs.Table.{Rows, as_held, row_in, rows_in, uncounted}
-use Rattle.row_table.proofs.Mapped.{mapped-kept, rows_back}
+use Rattle.foreign_table.proofs.Mapped.{mapped-kept}
+use Rattle.row_table.proofs.Mapped.{rows_back}
 use Rattle.machine_rules.specs.Collect.{is_in_use, without_unused}
 use Rattle.actor_cell.specs.declared.cell.Cell.{Cell}
 use Rattle.actor_cell.specs.Cells.{as_cell}
@@ -22,9 +23,9 @@ kept_rows : (marked : Thing → Bool) (h : Holdings) (known : Rows) → h.foreig
     → m.retain_keys known (λ x. not (goes_back (by_owner (given_back marked h)) x)) ≡ m.retain_keys known marked
 kept_rows marked h known is =
     let stays : Thing → Bool = λ x. not (goes_back (by_owner (given_back marked h)) x) in
-    ap (λ rows. m.retain_keys rows stays) (sym (rows_back known)) ∙ sym (mapped-kept row_in (uncounted known) stays)
+    ap (λ rows. m.retain_keys rows stays) (sym (rows_back known)) ∙ sym (mapped-kept (λ x. row_in) (uncounted known) stays)
     ∙ ap rows_in (ap (λ t. m.retain_keys t stays) (sym is) ∙ kept_entries marked h ∙ ap (λ t. m.retain_keys t marked) is)
-    ∙ mapped-kept row_in (uncounted known) marked ∙ ap (λ rows. m.retain_keys rows marked) (rows_back known)
+    ∙ mapped-kept (λ x. row_in) (uncounted known) marked ∙ ap (λ rows. m.retain_keys rows marked) (rows_back known)
 
 module _ (c : Cell) where
   -- they stand in order

@@ -1,3 +1,4 @@
+pub mod Here
 pub mod Awaiting
 pub mod Cells
 pub mod Finding

@@ -1,6 +1,6 @@
 // What was found of a turn is done.
 
-ghost use Rattle.std.specs.Prelude.{◌≡◌, ◌+◌, ◌<◌, ◌≤◌, ◌^◌, IsSome, OnOk, Some, length};
+ghost use Rattle.std.specs.Prelude.{◌≡◌, ◌+◌, ◌<◌, ◌≤◌, ◌^◌, IsSome, None, OnOk, Some, length, map};
 ghost use Rattle.turn_rules.specs.declared.act.Frame.{Frame as frame_of_rules};
 ghost use Rattle.letter_kinds.specs.Counting.{send};
 ghost use Rattle.letter_kinds.specs.Load.{as_load};
@@ -25,7 +25,7 @@ use turn_step::Turn;
 fn make_all(heap: &mut ObjectHeap, made: &[Row])
     requires room { length made.now ≤ heap.old.spare }
     requires serials { heap.old.next + length made.now < 2 ^ 64 }
-    ensures { heap.new ≡ with_new made.now heap.old }
+    ensures { heap.new ≡ with_new made.now (map (λ _. None) made.now) heap.old }
 {
     for row in made {
         heap.make(*row);

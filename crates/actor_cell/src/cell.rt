@@ -6,14 +6,14 @@ ghost use Rattle.orca_names.specs.declared.names.Thing.TheVariants.{Actor as act
 ghost use Rattle.foreign_table.specs.Table.{count_on};
 ghost use Rattle.machine_rules.specs.Cell.{clean_cell, first_cell};
 ghost use Rattle.ref_weights.specs.Limit.{count_limit};
-ghost use Rattle.actor_cell.specs.Cells.{IsCellOf, as_cell, settled};
+ghost use Rattle.actor_cell.specs.Here.{AreHere, AreHere-prop};
 
 use behaviour_check::Checked;
 use foreign_table::ForeignTable;
 use object_heap::ObjectHeap;
 use orca_names::{ActorName, Args, Fields, Thing, Value};
 use ref_weights::OwnCount;
-use row_store::Told;
+use row_store::{Remembered, Told};
 use row_table::RowTable;
 use std::alloc::Global;
 use turn_rules::{BoxedFrame, SpareFrame};
@@ -38,9 +38,13 @@ pub struct Cell {
     pub known: RowTable,
     /// How often the actor itself is held by others and loaded by letters, as far as it was told.
     pub count: OwnCount,
+    // No machine has blocks yet.
+    ghost here: { AreHere heap foreign known } by { AreHere-prop heap foreign known },
 }
 
 impl Cell {
+    ghost use Rattle.actor_cell.specs.Cells.{IsCellOf, as_cell, settled};
+
     /// The cell of the first actor, which nobody holds. It takes no memory.
     #[inline(always)]
     pub fn first(alloc: Global, code: &Checked) -> Cell
@@ -87,7 +91,11 @@ impl Cell {
         ensures owner { self.new.heap.owner ≡ self.old.heap.owner }
     {
         self.frame.put(register, Value::Actor(name));
-        self.foreign
-            .gain(Thing::Actor(name), &Told::Nothing, u64::from(weight));
+        self.foreign.gain(
+            Thing::Actor(name),
+            &Told::Nothing,
+            &Remembered::new(),
+            u64::from(weight),
+        );
     }
 }

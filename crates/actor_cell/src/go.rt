@@ -47,7 +47,8 @@ fn things_of(alloc: Global, load: &Load) -> Result<Listed<Thing>, NoMemory>
     ensures { IfOk result (λ things. things ≡ map (λ e. e.0) (as_load load.now)) }
 {
     let mut things = Listed::new(alloc);
-    for loaded in load.as_slice() {
+    let (items, _) = load.parts();
+    for loaded in items {
         things.push(loaded.0)?;
     }
     Ok(things)
@@ -155,7 +156,7 @@ impl Sending<'_> {
         let me = cell.heap.owner();
         if !lacks_any(&load, me, &cell.foreign) {
             found.load = load;
-            found.rows = Listed::new(alloc);
+            found.rows = Load::new(alloc);
             found.doing = Doing::Post {
                 to: self.to,
                 behaviour: self.behaviour,

@@ -1,28 +1,33 @@
 // Rows that letters bring uncounted.
 
-ghost use Rattle.std.specs.Prelude.{◌≡◌, ◌+◌, ◌<◌, ◌≤◌, [], ◌∷◌, length};
+ghost use Rattle.std.specs.Prelude.{◌≡◌, ◌+◌, ◌<◌, ◌≤◌, [], ◌∷◌, None, length};
 ghost use Rattle.foreign_table.specs.Table.{row_length};
 ghost use Rattle.letter_kinds.specs.Load.{as_load, as_loaded};
-ghost use Rattle.row_store.specs.Told.{row_here};
+ghost use Rattle.row_store.specs.Memory.{remembered};
+ghost use Rattle.row_store.specs.Told.{lies_as, row_here, told_block};
+ghost use Rattle.row_table.specs.Table.{AllKnownHere};
 ghost use Rattle.machine_rules.specs.Take.{learn};
 ghost use Rattle.trace_send.specs.Room.{values_of};
 
 use letter_kinds::Load;
 use orca_names::{ActorName, Thing};
-use row_store::Told;
+use row_store::{Remembered, Told};
 use row_table::RowTable;
 
 // The row of another's object is known.
-fn learn_one(known: &mut RowTable, me: ActorName, brought: &(Thing, Told))
+fn learn_one(known: &mut RowTable, me: ActorName, brought: &(Thing, Told), from: &Remembered)
     requires room { 0 < known.old.spare }
+    requires here { told_block brought.now.1 ≡ None }
     requires values { row_length (row_here brought.now.1) ≤ known.old.spare_values }
-    ensures rows { known.new.rows ≡ learn me (as_loaded brought.now ∷ []) known.old.rows }
+    ensures rows { let its = as_loaded (lies_as (remembered from.now) brought.now) in
+        known.new.rows ≡ learn me (its ∷ []) known.old.rows }
+    ensures here { AllKnownHere known.old → AllKnownHere known.new }
     ensures room { known.old.spare ≤ known.new.spare + 1 }
     ensures values { let its = row_length (row_here brought.now.1) in
         known.old.spare_values ≤ known.new.spare_values + its }
 {
     if brought.0.owner() != me {
-        known.learn(brought.0, &brought.1);
+        known.learn(brought.0, &brought.1, from);
     }
 }
 
@@ -30,9 +35,11 @@ fn learn_one(known: &mut RowTable, me: ActorName, brought: &(Thing, Told))
 pub(crate) fn learn_all(known: &mut RowTable, me: ActorName, rows: &Load)
     requires room { length rows.now ≤ known.old.spare }
     requires values { values_of (as_load rows.now) ≤ known.old.spare_values }
-    ensures { known.new.rows ≡ learn me (as_load rows.now) known.old.rows }
+    ensures rows { known.new.rows ≡ learn me (as_load rows.now) known.old.rows }
+    ensures here { AllKnownHere known.old → AllKnownHere known.new }
 {
-    for brought in rows.as_slice() {
-        learn_one(known, me, brought);
+    let (items, memory) = rows.parts();
+    for brought in items {
+        learn_one(known, me, brought, memory);
     }
 }

@@ -16,10 +16,9 @@ use foreign_table::ForeignTable;
 use known_rows::{KnownRows, TurnPlaces, TurnRows, may_reach_many};
 use letter_kinds::Load;
 use orca_names::{Args, NoMemory, Row, Thing, Trace};
-use plain_list::Listed;
 use reach_walk::{ThingList, WithWords, find_flat, find_loaded, load_by_place, with_rows};
 use root_trace::{find_loaded_roots, rows_of, without_rows};
-use row_store::RowWords;
+use row_store::{Remembered, RowWords};
 use std::alloc::Global;
 
 impl Cell {
@@ -84,7 +83,10 @@ impl Cell {
     {
         let rows = self.rows_with(&self.foreign, made);
         match TurnPlaces::of(rows) {
-            Some(places) => load_by_place(alloc, args, &places, words),
+            Some(places) => match load_by_place(alloc, args, &places, words)? {
+                Some(items) => Ok(Some(Load::with(items, Remembered::new()))),
+                None => Ok(None),
+            },
             None => Ok(None),
         }
     }
@@ -103,7 +105,8 @@ impl Cell {
         ensures words { SameWords W.known W.places W.beside words.old words.new }
     {
         let rows = self.rows_with(&self.foreign, made);
-        with_rows(alloc, things, &mut WithWords::of(&rows, words))
+        let items = with_rows(alloc, things, &mut WithWords::of(&rows, words))?;
+        Ok(Load::with(items, Remembered::new()))
     }
 
     // Finds the things that a letter with these arguments loads, where the turn made these rows.
@@ -163,7 +166,12 @@ impl Cell {
     {
         let nothing = ForeignTable::new(alloc);
         let rows = self.rows_with(self.known.held_or(&nothing), made);
-        rows_of(alloc, args, &mut WithWords::of(&rows, words))
+        rows_of(
+            alloc,
+            args,
+            &mut WithWords::of(&rows, words),
+            Remembered::new(),
+        )
     }
 
     // The rows that a letter with these arguments carries, where the turn made these.
@@ -181,7 +189,7 @@ impl Cell {
         ensures words { SameWords W.known W.places W.beside words.old words.new }
     {
         match trace {
-            Trace::Deep => Ok(Listed::new(alloc)),
+            Trace::Deep => Ok(Load::new(alloc)),
             Trace::Roots => self.brought(alloc, made, args, words),
         }
     }

@@ -19,6 +19,7 @@ pub(crate) fn reserve_load(foreign: &mut ForeignTable, load: &Load) -> Result<()
     ensures room { OnOk result (length load.now ≤ foreign.new.spare) }
     ensures values { OnOk result (values_of (as_load load.now) ≤ foreign.new.spare_values) }
     ensures same { foreign.new.entries ≡ foreign.old.entries }
+    ensures blocks { foreign.new.blocks ≡ foreign.old.blocks }
 {
     let Some(values) = count_values(load) else {
         return Err(NoMemory);
@@ -36,6 +37,7 @@ pub(crate) fn reserve_rows(known: &mut RowTable, rows: &Load) -> Result<(), NoMe
     ensures room { OnOk result (length rows.now ≤ known.new.spare) }
     ensures values { OnOk result (values_of (as_load rows.now) ≤ known.new.spare_values) }
     ensures same { known.new.rows ≡ known.old.rows }
+    ensures blocks { known.new.blocks ≡ known.old.blocks }
 {
     let Some(values) = count_values(rows) else {
         return Err(NoMemory);

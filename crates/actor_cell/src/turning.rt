@@ -71,8 +71,8 @@ impl Turned {
             place: 0,
             doing: Doing::End,
             args: Args::new(),
-            load: Listed::new(alloc),
-            rows: Listed::new(alloc),
+            load: Load::new(alloc),
+            rows: Load::new(alloc),
             things: Listed::new(alloc),
             seen: ThingList::new(alloc),
             awaited: None,
@@ -151,8 +151,8 @@ impl Turned {
         Letter::App {
             behaviour,
             args,
-            load: mem::replace(&mut self.load, Listed::new(alloc)),
-            rows: mem::replace(&mut self.rows, Listed::new(alloc)),
+            load: mem::replace(&mut self.load, Load::new(alloc)),
+            rows: mem::replace(&mut self.rows, Load::new(alloc)),
         }
     }
 

@@ -42,12 +42,19 @@ pub struct ActorTable {
 impl Model for ActorTable {
     ghost use Rattle.std.specs.Prelude.{◌-◌, length, min, vec_capacity, vec_len};
     ghost use Rattle.std.specs.Coded.{codes};
-    ghost use Rattle.actor_table.specs.Codes.{coded_entries, coded_known, coded_own};
+    ghost use Rattle.actor_table.specs.Codes.{coded_blocks, coded_entries, coded_known, coded_own, coded_own_blocks};
     ghost use Rattle.actor_table.specs.Slots.{AreIndexed, Table};
 
     ghost Value = { Table };
 
-    ghost coded = { Prim.hlevel (codes, coded_own, coded_entries, coded_known) };
+    ghost coded = { Prim.hlevel (
+      codes,
+      coded_own,
+      coded_own_blocks,
+      coded_entries,
+      coded_known,
+      coded_blocks,
+    ) };
 
     ghost view = { λ t. record {
       slots = t.slots.items;

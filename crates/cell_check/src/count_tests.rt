@@ -2,7 +2,9 @@
 
 ghost use Rattle.std.specs.Prelude.{◌≡◌, ◌∷◌, [], IfOk, None};
 ghost use Rattle.actor_cell.specs.Cells.{as_cell};
+ghost use Rattle.foreign_table.specs.Table as tables;
 ghost use Rattle.letter_kinds.specs.Holdings.{nothing_held};
+ghost use Rattle.object_heap.specs.Heap as heaps;
 
 use crate::going::{are_spare, checked, collects, goes, takes};
 use actor_cell::{Cell, Out};
@@ -13,7 +15,7 @@ use letter_kinds::{Amounts, Letter, Load, Note, SentArgs};
 use object_heap::ObjectHeap;
 use orca_names::{ActorName, Args, NoMemory, ObjName, Row, Serial, Thing, Value};
 use plain_list::Listed;
-use row_store::Told;
+use row_store::{Remembered, Told};
 use std::alloc::Global;
 use std::test::Fail;
 
@@ -53,11 +55,11 @@ fn nine() -> Row {
 
 /// What the letter that gives the first actor's object and the last actor loads.
 fn given_load(alloc: Global) -> Result<Load, Fail> {
-    let mut load = Load::new(alloc);
+    let mut load = Listed::new(alloc);
     load.push((FIRST, Told::Nothing))?;
     load.push((Thing::Obj(object_of(0)), Told::Here(nine())))?;
     load.push((LAST, Told::Nothing))?;
-    Ok(load)
+    Ok(Load::with(load, Remembered::new()))
 }
 
 /// How often the actor holds the first actor, its object and the last actor.
@@ -102,7 +104,7 @@ fn passes(out: &(ActorName, Letter), keep: Name) -> bool {
             behaviour,
             load,
             ..
-        } => out.0 == ActorName(2) && *behaviour == keep && is_passed(load.as_slice()),
+        } => out.0 == ActorName(2) && *behaviour == keep && is_passed(load.parts().0),
         _ => false,
     }
 }
@@ -127,7 +129,7 @@ fn gets(alloc: Global, code: &Checked, cell: &mut Cell, behaviour: Name) -> Resu
         behaviour,
         args,
         load,
-        rows: Listed::new(alloc),
+        rows: Load::new(alloc),
     };
     let out = takes(alloc, code, cell, letter)?;
     Ok(out.letters.is_empty() && out.notes.is_empty() && held(cell) == [1, 1, 1])
@@ -173,7 +175,9 @@ fn passes_on(alloc: Global, code: &Checked, cell: &mut Cell) -> Result<bool, Fai
 }
 
 /// Counts an object once.
-fn count_once(heap: &mut ObjectHeap, object: &ObjName) {
+fn count_once(heap: &mut ObjectHeap, object: &ObjName)
+    ensures { heap.new.blocks ≡ heap.old.blocks }
+{
     if heap.has(*object) {
         if heap.count(*object) < 1000 {
             heap.raise(*object, 1);
@@ -182,7 +186,9 @@ fn count_once(heap: &mut ObjectHeap, object: &ObjName) {
 }
 
 /// Makes an object that names the last actor, and is counted once.
-fn own_counted(heap: &mut ObjectHeap) -> Result<(), Fail> {
+fn own_counted(heap: &mut ObjectHeap) -> Result<(), Fail>
+    ensures { heaps.AllHere heap.old → heaps.AllHere heap.new }
+{
     heap.reserve(1)?;
     if heap.made() > 1000 {
         return Err(Fail::from("many objects"));
@@ -193,10 +199,12 @@ fn own_counted(heap: &mut ObjectHeap) -> Result<(), Fail> {
 }
 
 /// Holds the last actor with the weight.
-fn hold_last(foreign: &mut ForeignTable) -> Result<(), Fail> {
+fn hold_last(foreign: &mut ForeignTable) -> Result<(), Fail>
+    ensures { tables.AllHere foreign.old → tables.AllHere foreign.new }
+{
     foreign.reserve(1)?;
     if foreign.count(LAST) < 1000 {
-        foreign.gain(LAST, &Told::Nothing, COUNT);
+        foreign.gain(LAST, &Told::Nothing, &Remembered::new(), COUNT);
     }
     Ok(())
 }

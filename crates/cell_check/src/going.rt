@@ -6,7 +6,7 @@ ghost use Rattle.actor_cell.specs.Goes.{CanMove};
 ghost use Rattle.actor_cell.specs.Moves.{act_in};
 ghost use Rattle.actor_cell.specs.Takes.{CanTake};
 ghost use Rattle.letter_kinds.specs.Letters.{as_letter};
-ghost use Rattle.letter_kinds.specs.Load.{as_load, as_loaded};
+ghost use Rattle.letter_kinds.specs.Load.{as_load};
 ghost use Rattle.cell_check.specs.Spare.{AreLow, AreSpare, IsLow, IsSpare};
 ghost use Rattle.turn_rules.specs.Segment as segments;
 
@@ -51,7 +51,7 @@ pub(crate) fn takes(
 /// Whether another's thing is held so often at least.
 fn is_spare(loaded: &(Thing, Told), cell: &Cell, least: u64) -> bool
     ensures { IsTrue result
-        → IsSpare cell.now.heap.owner (as_cell cell.now).holdings least (as_loaded loaded.now) }
+        → IsSpare cell.now.heap.owner (as_cell cell.now).holdings least (loaded.now.0, None) }
 {
     let me = cell.heap.owner();
     if loaded.0.owner() == me {
@@ -68,7 +68,8 @@ pub(crate) fn are_spare(load: &Load, cell: &Cell, least: u64) -> bool
     if load.len() > 8 {
         return false;
     }
-    for loaded in load.as_slice() {
+    let (items, _) = load.parts();
+    for loaded in items {
         if !is_spare(loaded, cell, least) {
             return false;
         }

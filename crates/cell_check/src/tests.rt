@@ -6,9 +6,8 @@ use crate::going::{checked, collects, goes, takes};
 use actor_cell::{Cell, Out};
 use behaviour_check::Checked;
 use behaviour_code::Name;
-use letter_kinds::{Letter, Note, SentArgs};
+use letter_kinds::{Letter, Load, Note, SentArgs};
 use orca_names::Value;
-use plain_list::Listed;
 use std::alloc::Global;
 use std::test::Fail;
 
@@ -27,8 +26,8 @@ fn take(alloc: Global, code: &Checked, cell: &mut Cell, behaviour: Name) -> Resu
     let letter = Letter::App {
         behaviour,
         args: SentArgs::new(alloc)?,
-        load: Listed::new(alloc),
-        rows: Listed::new(alloc),
+        load: Load::new(alloc),
+        rows: Load::new(alloc),
     };
     if is_nothing(&takes(alloc, code, cell, letter)?) {
         Ok(())

@@ -12,7 +12,7 @@ use Rattle.orca_names.specs.declared.names.Thing.{Thing}
 use Rattle.orca_names.specs.declared.tally.Sums.{Sums}
 use Rattle.orca_names.specs.declared.names.Value.{Value}
 use Rattle.letter_kinds.specs.Load.{as_load, as_loaded}
-use Rattle.row_store.specs.declared.told.Told.{Told}
+use Rattle.row_store.specs.Told.{Lying}
 use Rattle.letter_kinds.specs.Counting.{Amount, Loaded}
 use Rattle.letter_kinds.specs.Sums.{amount_of, dec_of, inc_of, load_count, times_loaded}
 use Rattle.letter_kinds.specs.Letters.{Letter}
@@ -77,7 +77,7 @@ one_of : (f : Letter → ℕ) (l : Letter) → sum_by f (l ∷ []) ≡ f l
 one_of f l = omega arith
 
 -- a load has a thing as often with rows as values
-loaded_as : (x : Thing) (load : List (Thing × Told)) → times_loaded x (as_load load) ≡ times_among x load
+loaded_as : (x : Thing) (load : List (Thing × Lying)) → times_loaded x (as_load load) ≡ times_among x load
 unfolding times_loaded
 loaded_as x load = fold-map (λ n (e : Loaded). n + (if is_thing x e.0 then 1 else 0)) as_loaded 0 load
 
@@ -138,7 +138,7 @@ module _ (to : ℕ) where
   -- ---- of each kind of letter
 
   -- a load
-  pub app_line : (behaviour : ℕ) (args : List Value) (load rows : List (Thing × Told)) (s : Sums)
+  pub app_line : (behaviour : ℕ) (args : List Value) (load rows : List (Thing × Lying)) (s : Sums)
       → raised_by Letters (λ x. times_among x load) s
       ≡ with_mail to (letters.App behaviour args (as_load load) (as_load rows) ∷ []) s
   unfolding inc_of dec_of load_count

@@ -31,7 +31,8 @@ fn add_load(sums: &mut [Sums], load: &Load)
     requires room { HasRoom Letters (λ x. times_among x load.now) sums.old }
     ensures { sums.new ≡ map (raised_by Letters (λ x. times_among x load.now)) sums.old }
 {
-    for loaded in load.as_slice() {
+    let (items, _) = load.parts();
+    for loaded in items {
         add(sums, Column::Letters, &loaded.0, 1);
     }
 }

@@ -1,5 +1,5 @@
 -- The group of an owner among what goes back.
-use Rattle.std.proofs.Common.{◌≡◌, ℕ, zero, suc, ◌<◌, ◌≤◌, Bool, cond, true, false, not, ◌&&◌, ◌==◌, ◌+◌, ◌-◌, List, [], ◌∷◌, length, get_or, map, Option, refl, sym, ap, ◌∙◌, arith}
+use Rattle.std.proofs.Common.{◌≡◌, ℕ, zero, suc, ◌<◌, ◌≤◌, Bool, cond, true, false, not, ◌&&◌, ◌==◌, ◌+◌, ◌-◌, List, [], ◌∷◌, length, get_or, map, refl, sym, ap, ◌∙◌, arith}
 use Rattle.std.specs.Prelude.{T, filter, is_some}
 use Rattle.std.specs.Option.{option_map_or}
 use Rattle.std.specs.List.{list_all, sum_by}
@@ -16,14 +16,14 @@ use Rattle.std.proofs.lemmas.List.{length-map}
 use Rattle.std.proofs.lemmas.List.Sums.{count_by-le-length, length-filter, sum_by-cons}
 use Rattle.orca_names.specs.declared.names.Value.{Value}
 use Rattle.letter_kinds.specs.Counting.{Amount}
-use Rattle.letter_kinds.specs.Holdings.{Row}
+use Rattle.row_store.specs.Told.{Lying}
 use Rattle.foreign_table.specs.declared.search.Entry.{Entry}
-use Rattle.foreign_table.specs.Entry.{FollowFrom, pair_of}
-use Rattle.foreign_table.proofs.Entries.{all_entries, row_in_length}
+use Rattle.foreign_table.specs.Entry.{FollowFrom, len_of, pair_of}
+use Rattle.foreign_table.proofs.Entries.{lies_length}
 use Rattle.foreign_table.proofs.Rows.{all_of}
 use Rattle.orca_names.proofs.ThingOrder.{thing_exact, thing_total}
-use Rattle.foreign_table.specs.Back.{given_up, goes_back}
-use Rattle.foreign_table.specs.Table.{Table, DoRise, count_values, entries_in, row_length}
+use Rattle.foreign_table.specs.Back.{given_up, goes_back, with_kept}
+use Rattle.foreign_table.specs.Table.{Table, count_values, row_length}
 
 first : (a b : Bool) → T (a && b) → T a
 first true b p = tt
@@ -58,11 +58,12 @@ no_groups (g ∷ back) none =
 
 pub nothing_up : (back : List (ℕ × List Amount)) (t : Table) → (length back == 0) ≡ true → t ≡ given_up back t
 nothing_up back t none =
-    let kept = m.retain_keys t.entries (λ x. not (goes_back [] x)) in
-    let stay : kept ≡ t.entries = all_stay t.entries in
-    let spare : t.spare ≡ t.spare + (m.len t.entries - m.len kept) = omega (arith, ap m.len stay) in
-    let values : t.spare_values ≡ t.spare_values + (count_values t.entries - count_values kept) = omega (arith, ap count_values stay) in
-    (λ i. record { spare = spare i; spare_values = values i; entries = sym stay i }) ∙ ap (λ b. given_up b t) (sym (no_groups back none))
+    let stay = all_stay t.entries in
+    let places = all_stay t.blocks in
+    let same : with_kept [] t ≡ t = λ i. record t { entries = stay i; blocks = places i } in
+    let spare : t.spare ≡ t.spare + (m.len t.entries - m.len (with_kept [] t).entries) = omega (arith, ap m.len stay) in
+    let values : t.spare_values ≡ t.spare_values + (count_values t - count_values (with_kept [] t)) = omega (arith, ap count_values same) in
+    (λ i. record { spare = spare i; spare_values = values i; entries = sym stay i; blocks = sym places i }) ∙ ap (λ b. given_up b t) (sym (no_groups back none))
 
 -- ---- how many values rows have
 
@@ -77,23 +78,17 @@ sum_left f p (x ∷ xs) =
       | false ↦ omega (arith, rest, whole)
     ]
 
-abbrev pair_length : Thing × (ℕ × Option Row) → ℕ
-pair_length e = row_length e.1.1
+abbrev pair_length : Thing × (ℕ × Lying) → ℕ
+pair_length e = row_length e.1.1.row
 
 pairs_length : (vs : List Value) (at end : ℕ) (es : List Entry) → FollowFrom at es end → end ≤ length vs → at + sum_by pair_length (map (pair_of vs) es) ≡ end
 pairs_length vs at end [] f l = omega (arith, f)
 pairs_length vs at end (e ∷ es) f l =
-    let within : e.first + e.len ≤ length vs = omega (arith, all_of (at + e.len) end es f.2, f.0, l) in
-    omega (arith, pairs_length vs (at + e.len) end es f.2 l, sum_by-cons pair_length (pair_of vs e) (map (pair_of vs) es), row_in_length vs e within)
-
--- the values of all rows are those that are there
-pub all_counted : (vs : List Value) (es : List Entry) → DoRise es → FollowFrom 0 es (length vs) → count_values (entries_in vs es) ≡ length vs
-all_counted vs es h f =
-    let sum = pairs_length vs 0 (length vs) es f (omega arith) in
-    ap (sum_by pair_length) (all_entries vs es h) ∙ omega (arith, sum)
+    let within : e.first + len_of e ≤ length vs = omega (arith, all_of (at + len_of e) end es f.2, f.0, l) in
+    omega (arith, pairs_length vs (at + len_of e) end es f.2 l, sum_by-cons pair_length (pair_of vs e) (map (pair_of vs) es), lies_length vs e within)
 
 -- where only some entries stay, there are no more of them, nor of values
-pub no_more : (vs ws : List Value) (es fs : List Entry) (p : Thing × (ℕ × Option Row) → Bool) → FollowFrom 0 es (length vs) → FollowFrom 0 fs (length ws)
+pub no_more : (vs ws : List Value) (es fs : List Entry) (p : Thing × (ℕ × Lying) → Bool) → FollowFrom 0 es (length vs) → FollowFrom 0 fs (length ws)
     → map (pair_of ws) fs ≡ filter p (map (pair_of vs) es) → (length fs ≤ length es) × (length ws ≤ length vs)
 no_more vs ws es fs p f g pairs =
     let ps = map (pair_of vs) es in (

@@ -1,5 +1,5 @@
 -- The entries of a table, read and written.
-use Rattle.std.proofs.Common.{◌≡◌, ℕ, ◌+◌, ◌-◌, ◌<◌, ◌≤◌, Bool, true, cond, List, [], ◌∷◌, length, get_or, map, set, take, drop, slice_get, Option, Some, None, refl, sym, ap, subst, ◌∙◌, arith}
+use Rattle.std.proofs.Common.{◌≡◌, ℕ, ◌+◌, ◌<◌, ◌≤◌, Bool, true, List, [], ◌∷◌, length, get_or, map, set, take, drop, slice_get, Some, None, refl, sym, ap, subst, ◌∙◌, arith}
 use Rattle.std.specs.Prelude.{T, filter, is_some, option_map}
 use Rattle.std.specs.List.{insert, remove}
 use Rattle.std.specs.FinMap as m
@@ -7,7 +7,7 @@ use Rattle.std.specs.FinMap.Entries.{is_sorted}
 use Rattle.std.specs.declared.cmp.Ordering.TheVariants.{Less, Greater}
 use Rattle.std.proofs.lemmas.List.{length-map, length-drop, length-take-le, map-id, get_or_default}
 use Rattle.std.proofs.lemmas.Option.{slice_get-map}
-use Rattle.letter_kinds.specs.Holdings.{Row, entry_count, entry_row}
+use Rattle.row_store.specs.Told.{Lying}
 use Rattle.orca_names.specs.Names.{thing_cmp}
 use Rattle.orca_names.specs.declared.names.Thing.{Thing}
 use Rattle.orca_names.specs.declared.names.Value.{Value}
@@ -15,10 +15,11 @@ use Rattle.plain_list.specs.Rising.{IsAt, IsGap}
 use Rattle.plain_list.proofs.Rising.{at_place, item_at, item_entry, item_filter, item_get, item_key, item_len, item_set, get_gap, key_at_place, map_at, map_gap, map_remove, mapped_at, same_rise, sorted_at, sorted_gap, sorted_remove}
 use Rattle.orca_names.proofs.ThingOrder.{thing_total, thing_exact}
 use Rattle.foreign_table.specs.declared.search.Entry.{Entry}
-use Rattle.foreign_table.specs.Entry.{amount_of, as_row, pair_of, row_in}
-use Rattle.foreign_table.specs.Table.{Table, DoRise, counted, on_actor, on_actors, entries_in, count_on, entered, row_length}
+use Rattle.foreign_table.specs.declared.search.Place.TheVariants.{Here}
+use Rattle.foreign_table.specs.Entry.{amount_of, as_row, len_of, lies_in, pair_of}
+use Rattle.foreign_table.specs.Table.{DoRise, kept_in, on_actor, on_actors, row_length}
 
-things_of : (vs : List Value) (es : List Entry) → map (λ (e : Thing × (ℕ × Option Row)). e.0) (map (pair_of vs) es) ≡ map (λ (e : Entry). e.thing) es
+things_of : (vs : List Value) (es : List Entry) → map (λ (e : Thing × (ℕ × Lying)). e.0) (map (pair_of vs) es) ≡ map (λ (e : Entry). e.thing) es
 things_of vs [] = refl
 things_of vs (e ∷ es) = ap (λ xs. e.thing ∷ xs) (things_of vs es)
 
@@ -59,47 +60,47 @@ module _ (vs : List Value) (es : List Entry) (h : DoRise es) (x : Thing) (i : �
       }
 
 module _ (vs : List Value) (es : List Entry) (h : DoRise es) where
-  pub value_at : (x : Thing) (i : ℕ) (e : Entry) → IsAt thing_cmp (map amount_of es) x i → e ≡ get_or es i e → m.get (entries_in vs es) x ≡ Some (e.count, row_in vs e)
+  pub value_at : (x : Thing) (i : ℕ) (e : Entry) → IsAt thing_cmp (map amount_of es) x i → e ≡ get_or es i e → m.get (kept_in vs es) x ≡ Some (e.count, lies_in vs e)
   value_at x i e p is = item_get thing_total thing_exact (pair_of vs) es (pairs_rise vs es h) x i e (at_pairs vs es h x i p) is
 
   pub key_of : (x : Thing) (i : ℕ) (e : Entry) → IsAt thing_cmp (map amount_of es) x i → e ≡ get_or es i e → e.thing ≡ x
   key_of x i e p is = item_key thing_total thing_exact (pair_of vs) es x i e (at_pairs vs es h x i p) is
 
-  pub is_there : (x : Thing) (i : ℕ) → IsAt thing_cmp (map amount_of es) x i → is_some (m.get (entries_in vs es) x) ≡ true
+  pub is_there : (x : Thing) (i : ℕ) → IsAt thing_cmp (map amount_of es) x i → is_some (m.get (kept_in vs es) x) ≡ true
   is_there x i p =
-      let e : Entry = record { thing = x; count = 0; first = 0; len = 0 } in
+      let e : Entry = record { thing = x; count = 0; first = 0; place = Here 0 } in
       ap is_some (value_at x i (get_or es i e) p (get_or_default es i e (get_or es i e) (place_within es x i p)))
 
-  pub none_at : (x : Thing) (i : ℕ) → IsGap thing_cmp (map amount_of es) x i → m.get (entries_in vs es) x ≡ None
+  pub none_at : (x : Thing) (i : ℕ) → IsGap thing_cmp (map amount_of es) x i → m.get (kept_in vs es) x ≡ None
   none_at x i p = get_gap thing_total thing_exact (map (pair_of vs) es) (pairs_rise vs es h) x i (gap_pairs vs es h x i p)
 
-  pub key_here : (x : Thing) (i : ℕ) → IsAt thing_cmp (map amount_of es) x i → slice_get (m.keys (entries_in vs es)) i ≡ Some x
+  pub key_here : (x : Thing) (i : ℕ) → IsAt thing_cmp (map amount_of es) x i → slice_get (m.keys (kept_in vs es)) i ≡ Some x
   key_here x i p = key_at_place (map (pair_of vs) es) (pairs_rise vs es h) x i (at_pairs vs es h x i p)
 
-  pub len_here : m.len (entries_in vs es) ≡ length es
+  pub len_here : m.len (kept_in vs es) ≡ length es
   len_here = item_len thing_total thing_exact (pair_of vs) es (pairs_rise vs es h)
 
-  pub entry_here : (i : ℕ) (e : Entry) → i < length es → e ≡ get_or es i e → slice_get (m.entries (entries_in vs es)) i ≡ Some (pair_of vs e)
+  pub entry_here : (i : ℕ) (e : Entry) → i < length es → e ≡ get_or es i e → slice_get (m.entries (kept_in vs es)) i ≡ Some (pair_of vs e)
   entry_here i e l is = item_entry thing_total thing_exact (pair_of vs) es (pairs_rise vs es h) i e l is
 
-  pub key_there : (i : ℕ) (e : Entry) → i < length es → e ≡ get_or es i e → slice_get (m.keys (entries_in vs es)) i ≡ Some e.thing
-  key_there i e l is = slice_get-map (λ x. x.0) (m.entries (entries_in vs es)) i ∙ ap (option_map (λ x. x.0)) (entry_here i e l is)
+  pub key_there : (i : ℕ) (e : Entry) → i < length es → e ≡ get_or es i e → slice_get (m.keys (kept_in vs es)) i ≡ Some e.thing
+  key_there i e l is = slice_get-map (λ x. x.0) (m.entries (kept_in vs es)) i ∙ ap (option_map (λ x. x.0)) (entry_here i e l is)
 
-  pub all_entries : m.entries (entries_in vs es) ≡ map (pair_of vs) es
+  pub all_entries : m.entries (kept_in vs es) ≡ map (pair_of vs) es
   all_entries = m.entries-from_sorted thing_cmp (map (pair_of vs) es) (pairs_rise vs es h)
 
-  pub keys_here : m.keys (entries_in vs es) ≡ map (λ (e : Entry). e.thing) es
+  pub keys_here : m.keys (kept_in vs es) ≡ map (λ (e : Entry). e.thing) es
   keys_here = ap (map (λ e. e.0)) all_entries ∙ things_of vs es
 
 abbrev pub blank : Thing → Entry
-blank x = record { thing = x; count = 0; first = 0; len = 0 }
+blank x = record { thing = x; count = 0; first = 0; place = Here 0 }
 
 -- the entry of a thing that is held
 module _ (vs : List Value) (es : List Entry) (h : DoRise es) (x : Thing) (i : ℕ) (p : IsAt thing_cmp (map amount_of es) x i) (d : Entry) where
   pub itself : get_or es i d ≡ get_or es i (get_or es i d)
   itself = get_or_default es i d (get_or es i d) (place_within es x i p)
 
-  pub found : m.get (entries_in vs es) x ≡ Some ((get_or es i d).count, row_in vs (get_or es i d))
+  pub found : m.get (kept_in vs es) x ≡ Some ((get_or es i d).count, lies_in vs (get_or es i d))
   found = value_at vs es h x i (get_or es i d) p itself
 
   pub key_found : (get_or es i d).thing ≡ x
@@ -107,37 +108,32 @@ module _ (vs : List Value) (es : List Entry) (h : DoRise es) (x : Thing) (i : �
 
 -- the count of an entry is changed
 module _ (vs : List Value) (es : List Entry) (x : Thing) (i : ℕ) (e y : Entry) (h : DoRise es) (p : IsAt thing_cmp (map amount_of es) x i) (is : e ≡ get_or es i e) (same : y.thing ≡ e.thing) where
-  both_set : T (is_sorted thing_cmp (map (pair_of vs) (set es i y))) × (entries_in vs (set es i y) ≡ m.insert (entries_in vs es) x (y.count, row_in vs y))
+  both_set : T (is_sorted thing_cmp (map (pair_of vs) (set es i y))) × (kept_in vs (set es i y) ≡ m.insert (kept_in vs es) x (y.count, lies_in vs y))
   both_set = item_set thing_total thing_exact (pair_of vs) es (pairs_rise vs es h) x i y (at_pairs vs es h x i p) (same ∙ key_of vs es h x i e p is)
-
-  pub count_there : entry_count (m.get (entries_in vs es) x) ≡ e.count
-  count_there = ap entry_count (value_at vs es h x i e p is)
 
   pub written_held : DoRise (set es i y)
   written_held = amounts_rise vs (set es i y) both_set.0
 
-  pub counted_entries : (f : ℕ → ℕ) → f e.count ≡ y.count → row_in vs e ≡ row_in vs y
-      → entries_in vs (set es i y) ≡ m.insert (entries_in vs es) x (f (entry_count (m.get (entries_in vs es) x)), entry_row (m.get (entries_in vs es) x))
-  counted_entries f g row = both_set.1 ∙ ap (λ c. m.insert (entries_in vs es) x (c, row_in vs y)) (sym g) ∙ ap (λ n. m.insert (entries_in vs es) x (f n, row_in vs y)) (sym count_there)
-      ∙ ap (λ r. m.insert (entries_in vs es) x (f (entry_count (m.get (entries_in vs es) x)), r)) (sym (ap entry_row (value_at vs es h x i e p is) ∙ row))
+  pub written_kept : kept_in vs (set es i y) ≡ m.insert (kept_in vs es) x (y.count, lies_in vs y)
+  written_kept = both_set.1
 
 -- what is written over these entries, and over their values
 module _ (vs ws : List Value) (es fs : List Entry) (h : DoRise es) (x : Thing) (i : ℕ) where
-  pub set_entries : (v : ℕ × Option Row) → IsAt thing_cmp (map amount_of es) x i → map (pair_of ws) fs ≡ set (map (pair_of vs) es) i (x, v) → DoRise fs × (entries_in ws fs ≡ m.insert (entries_in vs es) x v)
+  pub set_entries : (v : ℕ × Lying) → IsAt thing_cmp (map amount_of es) x i → map (pair_of ws) fs ≡ set (map (pair_of vs) es) i (x, v) → DoRise fs × (kept_in ws fs ≡ m.insert (kept_in vs es) x v)
   set_entries v p pairs =
       let q = at_pairs vs es h x i p in (
         amounts_rise ws fs (subst (λ ps. T (is_sorted thing_cmp ps)) (sym pairs) (sorted_at thing_total thing_exact (map (pair_of vs) es) (pairs_rise vs es h) x v i q)),
         ap m.from_sorted pairs ∙ map_at thing_total thing_exact (map (pair_of vs) es) (pairs_rise vs es h) x v i q,
       )
 
-  pub new_entries : (v : ℕ × Option Row) → IsGap thing_cmp (map amount_of es) x i → map (pair_of ws) fs ≡ insert (map (pair_of vs) es) i (x, v) → DoRise fs × (entries_in ws fs ≡ m.insert (entries_in vs es) x v)
+  pub new_entries : (v : ℕ × Lying) → IsGap thing_cmp (map amount_of es) x i → map (pair_of ws) fs ≡ insert (map (pair_of vs) es) i (x, v) → DoRise fs × (kept_in ws fs ≡ m.insert (kept_in vs es) x v)
   new_entries v p pairs =
       let q = gap_pairs vs es h x i p in (
         amounts_rise ws fs (subst (λ ps. T (is_sorted thing_cmp ps)) (sym pairs) (sorted_gap thing_total thing_exact (map (pair_of vs) es) (pairs_rise vs es h) x v i q)),
         ap m.from_sorted pairs ∙ map_gap thing_total thing_exact (map (pair_of vs) es) (pairs_rise vs es h) x v i q,
       )
 
-  pub less_entries : IsAt thing_cmp (map amount_of es) x i → map (pair_of ws) fs ≡ remove (map (pair_of vs) es) i → DoRise fs × (entries_in ws fs ≡ m.remove (entries_in vs es) x)
+  pub less_entries : IsAt thing_cmp (map amount_of es) x i → map (pair_of ws) fs ≡ remove (map (pair_of vs) es) i → DoRise fs × (kept_in ws fs ≡ m.remove (kept_in vs es) x)
   less_entries p pairs =
       let q = at_pairs vs es h x i p in (
         amounts_rise ws fs (subst (λ ps. T (is_sorted thing_cmp ps)) (sym pairs) (sorted_remove thing_total thing_exact (map (pair_of vs) es) (pairs_rise vs es h) x i q)),
@@ -146,17 +142,17 @@ module _ (vs ws : List Value) (es fs : List Entry) (h : DoRise es) (x : Thing) (
 
 -- some entries stay
 pub stay_entries : (vs ws : List Value) (es fs : List Entry) (stays : Thing → Bool) → DoRise es → map (pair_of ws) fs ≡ filter (λ e. stays e.0) (map (pair_of vs) es)
-    → DoRise fs × (entries_in ws fs ≡ m.retain_keys (entries_in vs es) stays)
+    → DoRise fs × (kept_in ws fs ≡ m.retain_keys (kept_in vs es) stays)
 stay_entries vs ws es fs stays h pairs =
     let ps = map (pair_of vs) es in
-    let left = filter (λ (e : Thing × (ℕ × Option Row)). stays e.0) ps in
-    let both = item_filter thing_total thing_exact (λ (e : Thing × (ℕ × Option Row)). e) ps (subst (λ qs. T (is_sorted thing_cmp qs)) (sym (map-id ps)) (pairs_rise vs es h)) stays in (
+    let left = filter (λ (e : Thing × (ℕ × Lying)). stays e.0) ps in
+    let both = item_filter thing_total thing_exact (λ (e : Thing × (ℕ × Lying)). e) ps (subst (λ qs. T (is_sorted thing_cmp qs)) (sym (map-id ps)) (pairs_rise vs es h)) stays in (
       amounts_rise ws fs (subst (λ qs. T (is_sorted thing_cmp qs)) (map-id left ∙ sym pairs) both.0),
       ap m.from_sorted (pairs ∙ sym (map-id left)) ∙ both.1 ∙ ap (λ qs. m.retain_keys (m.from_sorted qs) stays) (map-id ps),
     )
 
-pub no_entries : (vs : List Value) (es : List Entry) → es ≡ [] → entries_in vs es ≡ m.empty
-no_entries vs es e = ap (entries_in vs) e ∙ m.empty_of_len (entries_in vs []) (item_len thing_total thing_exact (pair_of vs) [] tt)
+pub no_entries : (vs : List Value) (es : List Entry) → es ≡ [] → kept_in vs es ≡ m.empty
+no_entries vs es e = ap (kept_in vs) e ∙ m.empty_of_len (kept_in vs []) (item_len thing_total thing_exact (pair_of vs) [] tt)
 
 pub none_held : (es : List Entry) → es ≡ [] → DoRise es
 none_held es e = subst DoRise (sym e) tt
@@ -167,41 +163,8 @@ pub as_row_length : (xs : List Value) → row_length (as_row xs) ≡ length xs
 as_row_length [] = refl
 as_row_length (x ∷ xs) = refl
 
-pub row_in_length : (vs : List Value) (e : Entry) → e.first + e.len ≤ length vs → row_length (row_in vs e) ≡ e.len
-row_in_length vs e l = as_row_length (take e.len (drop e.first vs)) ∙ length-take-le e.len (drop e.first vs) (omega (arith, l, length-drop e.first vs))
-
--- ---- what a gain says, where there was an entry and where there was none
-
-module _ (change : ℕ → ℕ) (row : Option Row) (x : Thing) (t : Table) where
-  entered_by : Option (ℕ × Option Row) → Table
-  entered_by o = record {
-    spare = t.spare - cond (is_some o) 0 1;
-    spare_values = t.spare_values + row_length (entry_row o) - row_length row;
-    entries = m.insert t.entries x (change (entry_count o), row);
-  }
-
-  pub entered_present : (v : ℕ × Option Row) (u : Table) → m.get t.entries x ≡ Some v
-      → u.spare ≡ t.spare → u.spare_values ≡ t.spare_values + row_length v.1 - row_length row → u.entries ≡ m.insert t.entries x (change v.0, row) → u ≡ entered change x row t
-  unfolding entered_by
-  entered_present v u there spare values entries =
-      let same : u.spare ≡ t.spare - 0 = omega (arith, spare) in
-      (λ j. record { spare = same j; spare_values = values j; entries = entries j }) ∙ ap entered_by (sym there)
-
-  pub entered_absent : (u : Table) → m.get t.entries x ≡ None
-      → u.spare ≡ t.spare - 1 → u.spare_values ≡ t.spare_values - row_length row → u.entries ≡ m.insert t.entries x (change 0, row) → u ≡ entered change x row t
-  unfolding entered_by
-  entered_absent u none spare values entries =
-      let same : u.spare_values ≡ t.spare_values + 0 - row_length row = omega (arith, values) in
-      (λ j. record { spare = spare j; spare_values = same j; entries = entries j }) ∙ ap entered_by (sym none)
-
--- a count alone rises
-pub counted_present : (change : ℕ → ℕ) (x : Thing) (t : Table) (v : ℕ × Option Row) → m.get t.entries x ≡ Some v → counted change x t ≡ entered change x (entry_row (m.get t.entries x)) t
-counted_present change x t v there =
-    let row = entry_row (m.get t.entries x) in
-    let seen : is_some (m.get t.entries x) ≡ true = ap is_some there in
-    let spare : t.spare ≡ t.spare - cond (is_some (m.get t.entries x)) 0 1 = (let zero : t.spare ≡ t.spare - 0 = omega arith in zero) ∙ ap (λ b. t.spare - cond b 0 1) (sym seen) in
-    let values : t.spare_values ≡ t.spare_values + row_length row - row_length row = omega arith in
-    λ j. record { spare = spare j; spare_values = values j; entries = m.insert t.entries x (change (count_on t x), row) }
+pub lies_length : (vs : List Value) (e : Entry) → e.first + len_of e ≤ length vs → row_length (lies_in vs e).row ≡ len_of e
+lies_length vs e l = as_row_length (take (len_of e) (drop e.first vs)) ∙ length-take-le (len_of e) (drop e.first vs) (omega (arith, l, length-drop e.first vs))
 
 -- rows do not matter to counts on actors
 pub same_actors : (vs ws : List Value) (es : List Entry) → on_actors (map (pair_of vs) es) ≡ on_actors (map (pair_of ws) es)

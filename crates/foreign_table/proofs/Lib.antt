@@ -1,9 +1,13 @@
 pub mod BackLemmas
 pub mod Entries
 pub mod Found
+pub mod Gained
+pub mod Here
+pub mod Mapped
 pub mod Near
 pub mod Owners
 pub mod Rows
 pub mod Same
+pub mod Seen
 pub mod Sweep
 pub mod Unheld

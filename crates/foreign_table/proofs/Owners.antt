@@ -13,6 +13,7 @@ use Rattle.orca_names.specs.declared.names.Thing.{Thing}
 use Rattle.orca_names.specs.declared.names.Thing.TheVariants.{Actor}
 use Rattle.orca_names.proofs.ThingOrder.{thing_total}
 use Rattle.foreign_table.specs.declared.search.Entry.{Entry}
+use Rattle.foreign_table.specs.declared.search.Place.TheVariants.{Here}
 use Rattle.foreign_table.specs.Entry.{amount_of}
 use Rattle.foreign_table.specs.Span.{IsSpan}
 use Rattle.foreign_table.specs.Table.{DoRise}
@@ -75,8 +76,8 @@ module _ (es : List Entry) where
         omega arith
   ]
 
-  thing_there : (k : ℕ) (d : Thing) → k < length es → get_or (map (λ (e : Entry). e.thing) es) k d ≡ (get_or es k (record { thing = d; count = 0; first = 0; len = 0 })).thing
-  thing_there k d l = get_or-map (λ (e : Entry). e.thing) es k (record { thing = d; count = 0; first = 0; len = 0 }) d l
+  thing_there : (k : ℕ) (d : Thing) → k < length es → get_or (map (λ (e : Entry). e.thing) es) k d ≡ (get_or es k (record { thing = d; count = 0; first = 0; place = Here 0 })).thing
+  thing_there k d l = get_or-map (λ (e : Entry). e.thing) es k (record { thing = d; count = 0; first = 0; place = Here 0 }) d l
 
   pub spans : (owner first end : ℕ) → DoRise es → first ≤ end → end ≤ length es
       → ((k : ℕ) (d : Entry) → k < first → owner_of (get_or es k d).thing < owner)
@@ -86,9 +87,9 @@ module _ (es : List Entry) where
   spans owner first end h low high below behind own stop = record {
     first_within = low;
     end_within = omega (arith, length-map es (λ (e : Entry). e.thing));
-    below = λ k d l. rw (thing_there k d (omega arith)) (below k (record { thing = d; count = 0; first = 0; len = 0 }) l);
-    own = λ k d l m. rw (thing_there k d (omega arith)) (own k (record { thing = d; count = 0; first = 0; len = 0 }) l m);
-    above = λ k d l m. let n : k < length es = omega (arith, length-map es (λ (e : Entry). e.thing)) in rw (thing_there k d n) (higher k (record { thing = d; count = 0; first = 0; len = 0 }) l n);
+    below = λ k d l. rw (thing_there k d (omega arith)) (below k (record { thing = d; count = 0; first = 0; place = Here 0 }) l);
+    own = λ k d l m. rw (thing_there k d (omega arith)) (own k (record { thing = d; count = 0; first = 0; place = Here 0 }) l m);
+    above = λ k d l m. let n : k < length es = omega (arith, length-map es (λ (e : Entry). e.thing)) in rw (thing_there k d n) (higher k (record { thing = d; count = 0; first = 0; place = Here 0 }) l n);
   }
     where
       at_end : (d : Entry) → end < length es → owner < owner_of (get_or es end d).thing

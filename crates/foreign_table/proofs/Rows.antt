@@ -1,13 +1,13 @@
 -- Rows that stand one behind another, where values are put between them or taken out.
 use Rattle.std.proofs.Common.{◌≡◌, ℕ, zero, suc, ◌+◌, ◌-◌, ◌<◌, ◌≤◌, List, [], ◌∷◌, ◌++◌, length, get_or, map, set, take, drop, refl, sym, ap, subst, ◌∙◌, arith}
 use Rattle.std.specs.List.{insert, remove, sum_by}
-use Rattle.std.proofs.lemmas.List.{append-nil, append_assoc, map-append, length-append, length-drop, length-take-le, take-append-drop, take_all, take-take, take_at, drop-drop, drop_at, drop-take, drop_more, drop_all, drop-map, drop-set-lt, set_split, length-map, take_more, take_more_set}
+use Rattle.std.proofs.lemmas.List.{append-nil, append_assoc, map-append, length-append, length-drop, length-take-le, take_all, take-take, take_at, drop-drop, drop_at, drop-take, drop_more, drop_all, drop-map, drop-set-lt, set_split, length-map, take_more, take_more_set}
 use Rattle.std.specs.List.{take-map}
 use Rattle.std.proofs.lemmas.List.Edits.{insert-append_right}
 use Rattle.std.proofs.lemmas.List.Sums.{sum_by-cons}
 use Rattle.orca_names.specs.declared.names.Value.{Value}
 use Rattle.foreign_table.specs.declared.search.Entry.{Entry}
-use Rattle.foreign_table.specs.Entry.{FollowFrom, as_row, lined_up, pair_of, row_in}
+use Rattle.foreign_table.specs.Entry.{FollowFrom, block_in, len_of, lies_in, lined_up, lying_of, pair_of}
 
 -- ---- lists around a place
 
@@ -44,22 +44,22 @@ swapped vs row first len ws us l taken put =
     put ∙ (λ j. take first (taken j) ++ (row ++ drop first (taken j))) ∙ (λ j. take_at (take first vs) (drop (first + len) vs) first long j ++ (row ++ drop_at (take first vs) (drop (first + len) vs) first long j))
 
 abbrev pub lengths : List Entry → ℕ
-lengths es = sum_by (λ (e : Entry). e.len) es
+lengths es = sum_by len_of es
 
 -- ---- from one place to another
 
 pub all_of : (at end : ℕ) (es : List Entry) → FollowFrom at es end → at + lengths es ≡ end
 all_of at end [] f = omega (arith, f)
-all_of at end (e ∷ es) f = omega (arith, all_of (at + e.len) end es f.2, sum_by-cons (λ (x : Entry). x.len) e es)
+all_of at end (e ∷ es) f = omega (arith, all_of (at + len_of e) end es f.2, sum_by-cons len_of e es)
 
 pub joined : (at mid end : ℕ) (es fs : List Entry) → FollowFrom at es mid → FollowFrom mid fs end → FollowFrom at (es ++ fs) end
 joined at mid end [] fs f g = subst (λ n. FollowFrom n fs end) (sym f) g
-joined at mid end (e ∷ es) fs f g = (f.0, f.1, joined (at + e.len) mid end es fs f.2 g)
+joined at mid end (e ∷ es) fs f g = (f.0, f.1, joined (at + len_of e) mid end es fs f.2 g)
 
 pub parted : (at end i : ℕ) (es : List Entry) → FollowFrom at es end → (mid : ℕ) × FollowFrom at (take i es) mid × FollowFrom mid (drop i es) end
 parted at end zero es f = (at, refl, f)
 parted at end (suc i) [] f = (at, refl, f)
-parted at end (suc i) (e ∷ es) f = let p = parted (at + e.len) end i es f.2 in (p.0, (f.0, f.1, p.1), p.2)
+parted at end (suc i) (e ∷ es) f = let p = parted (at + len_of e) end i es f.2 in (p.0, (f.0, f.1, p.1), p.2)
 
 pub none_follow : (es : List Entry) (vs : List Value) → es ≡ [] → vs ≡ [] → FollowFrom 0 es (length vs)
 none_follow es vs e f = subst (λ xs. FollowFrom 0 xs (length vs)) (sym e) (sym (ap length f))
@@ -67,21 +67,21 @@ none_follow es vs e f = subst (λ xs. FollowFrom 0 xs (length vs)) (sym e) (sym 
 pub lined_follow : (at to end : ℕ) (es : List Entry) → FollowFrom at es end → FollowFrom to (lined_up to es) (to + lengths es)
 lined_follow at to end [] f = omega arith
 lined_follow at to end (e ∷ es) f =
-    let sum : (to + e.len) + lengths es ≡ to + lengths (e ∷ es) = omega (arith, sum_by-cons (λ (x : Entry). x.len) e es) in
-    (refl, f.1, subst (λ n. FollowFrom (to + e.len) (lined_up (to + e.len) es) n) sum (lined_follow (at + e.len) (to + e.len) end es f.2))
+    let sum : (to + len_of e) + lengths es ≡ to + lengths (e ∷ es) = omega (arith, sum_by-cons len_of e es) in
+    (refl, f.1, subst (λ n. FollowFrom (to + len_of e) (lined_up (to + len_of e) es) n) sum (lined_follow (at + len_of e) (to + len_of e) end es f.2))
 
 pub lined_same : (at end : ℕ) (es : List Entry) → FollowFrom at es end → lined_up at es ≡ es
 lined_same at end [] f = refl
-lined_same at end (e ∷ es) f = λ i. record e { first = sym f.0 i } ∷ lined_same (at + e.len) end es f.2 i
+lined_same at end (e ∷ es) f = λ i. record e { first = sym f.0 i } ∷ lined_same (at + len_of e) end es f.2 i
 
 -- ---- what entries say, where values move
 
 pub moved : (vs ws : List Value) (at to end : ℕ) (es : List Entry) → FollowFrom at es end → drop at vs ≡ drop to ws → map (pair_of ws) (lined_up to es) ≡ map (pair_of vs) es
 moved vs ws at to end [] f same = refl
 moved vs ws at to end (e ∷ es) f same =
-    let row : as_row (take e.len (drop to ws)) ≡ row_in vs e = ap (λ xs. as_row (take e.len xs)) (sym same ∙ ap (λ n. drop n vs) (sym f.0)) in
-    let rest : drop (at + e.len) vs ≡ drop (to + e.len) ws = sym (drop-drop e.len at vs) ∙ ap (drop e.len) same ∙ drop-drop e.len to ws in
-    λ i. (e.thing, (e.count, row i)) ∷ moved vs ws (at + e.len) (to + e.len) end es f.2 rest i
+    let row : lying_of (take (len_of e) (drop to ws)) (block_in e.place) ≡ lies_in vs e = ap (λ xs. lying_of (take (len_of e) xs) (block_in e.place)) (sym same ∙ ap (λ n. drop n vs) (sym f.0)) in
+    let rest : drop (at + len_of e) vs ≡ drop (to + len_of e) ws = sym (drop-drop (len_of e) at vs) ∙ ap (drop (len_of e)) same ∙ drop-drop (len_of e) to ws in
+    λ i. (e.thing, (e.count, row i)) ∷ moved vs ws (at + len_of e) (to + len_of e) end es f.2 rest i
 
 front_row : (vs : List Value) (first len m : ℕ) → first + len ≤ m → take len (drop first vs) ≡ drop first (take (first + len) (take m vs))
 front_row vs first len m l = sym (drop-take first len vs) ∙ ap (drop first) (sym (take-take (first + len) m vs l))
@@ -89,10 +89,10 @@ front_row vs first len m l = sym (drop-take first len vs) ∙ ap (drop first) (s
 pub unmoved : (vs ws : List Value) (at m end : ℕ) (es : List Entry) → FollowFrom at es end → end ≤ m → take m vs ≡ take m ws → map (pair_of ws) es ≡ map (pair_of vs) es
 unmoved vs ws at m end [] f l same = refl
 unmoved vs ws at m end (e ∷ es) f l same =
-    let whole = all_of (at + e.len) end es f.2 in
-    let within : e.first + e.len ≤ m = omega (arith, whole, f.0, l) in
-    let row : row_in ws e ≡ row_in vs e = ap as_row (front_row ws e.first e.len m within ∙ ap (λ xs. drop e.first (take (e.first + e.len) xs)) (sym same) ∙ sym (front_row vs e.first e.len m within)) in
-    λ i. (e.thing, (e.count, row i)) ∷ unmoved vs ws (at + e.len) m end es f.2 l same i
+    let whole = all_of (at + len_of e) end es f.2 in
+    let within : e.first + len_of e ≤ m = omega (arith, whole, f.0, l) in
+    let row : lies_in ws e ≡ lies_in vs e = ap (λ xs. lying_of xs (block_in e.place)) (front_row ws e.first (len_of e) m within ∙ ap (λ xs. drop e.first (take (e.first + len_of e) xs)) (sym same) ∙ sym (front_row vs e.first (len_of e) m within)) in
+    λ i. (e.thing, (e.count, row i)) ∷ unmoved vs ws (at + len_of e) m end es f.2 l same i
 
 -- ---- values in place of others, between two places
 
@@ -113,9 +113,11 @@ module _ (vs row : List Value) (before behind : List Entry) (m k : ℕ) (f : Fol
   pairs_behind = moved vs ws k (m + length row) (length vs) behind g
       (sym (sym (drop-drop (length row) m ws) ∙ ap (drop (length row)) (drop_at (take m vs) (row ++ drop k vs) m front) ∙ drop_at row (drop k vs) (length row) refl))
 
-  pub row_there : (y : Entry) → y.first ≡ m → y.len ≡ length row → row_in ws y ≡ as_row row
+  pub row_there : (y : Entry) → y.first ≡ m → len_of y ≡ length row → lies_in ws y ≡ lying_of row (block_in y.place)
   row_there y first len =
-      ap (λ n. as_row (take y.len (drop n ws))) first ∙ ap (λ xs. as_row (take y.len xs)) (drop_at (take m vs) (row ++ drop k vs) m front) ∙ ap as_row (take_at row (drop k vs) y.len (sym len))
+      ap (λ n. lying_of (take (len_of y) (drop n ws)) (block_in y.place)) first
+      ∙ ap (λ xs. lying_of (take (len_of y) xs) (block_in y.place)) (drop_at (take m vs) (row ++ drop k vs) m front)
+      ∙ ap (λ xs. lying_of xs (block_in y.place)) (take_at row (drop k vs) (len_of y) (sym len))
 
   pub length_of : length ws ≡ m + length row + lengths behind
   length_of =
@@ -127,15 +129,15 @@ module _ (vs row : List Value) (before behind : List Entry) (m k : ℕ) (f : Fol
   behind_follow : FollowFrom (m + length row) (lined_up (m + length row) behind) (length ws)
   behind_follow = subst (λ n. FollowFrom (m + length row) (lined_up (m + length row) behind) n) (sym length_of) (lined_follow k (m + length row) (length vs) behind g)
 
-  pub follow_with : (y : Entry) → y.first ≡ m → y.len ≡ length row → length row ≤ 8 → FollowFrom 0 (before ++ y ∷ lined_up (m + length row) behind) (length ws)
+  pub follow_with : (y : Entry) → y.first ≡ m → len_of y ≡ length row → length row ≤ 8 → FollowFrom 0 (before ++ y ∷ lined_up (m + length row) behind) (length ws)
   follow_with y first len few = joined 0 m (length ws) before (y ∷ lined_up (m + length row) behind) f
       (first, omega (arith, len, few), subst (λ n. FollowFrom (m + n) (lined_up (m + length row) behind) (length ws)) (sym len) behind_follow)
 
   pub follow_without : length row ≡ 0 → FollowFrom 0 (before ++ lined_up (m + length row) behind) (length ws)
   follow_without none = joined 0 m (length ws) before (lined_up (m + length row) behind) f (subst (λ n. FollowFrom n (lined_up (m + length row) behind) (length ws)) (omega (arith, none)) behind_follow)
 
-  pub pairs_with : (y : Entry) → y.first ≡ m → y.len ≡ length row
-      → map (pair_of ws) (before ++ y ∷ lined_up (m + length row) behind) ≡ map (pair_of vs) before ++ (y.thing, (y.count, as_row row)) ∷ map (pair_of vs) behind
+  pub pairs_with : (y : Entry) → y.first ≡ m → len_of y ≡ length row
+      → map (pair_of ws) (before ++ y ∷ lined_up (m + length row) behind) ≡ map (pair_of vs) before ++ (y.thing, (y.count, lying_of row (block_in y.place))) ∷ map (pair_of vs) behind
   pairs_with y first len = map-append (pair_of ws) before (y ∷ lined_up (m + length row) behind)
       ∙ (λ i. pairs_before i ++ (y.thing, (y.count, row_there y first len i)) ∷ pairs_behind i)
 
@@ -149,20 +151,20 @@ module _ (es : List Entry) (vs : List Value) (follow : FollowFrom 0 es (length v
   pub record Stands (e : Entry) : Type 0 where
     pub before : FollowFrom 0 (take i es) e.first
     pub here : FollowFrom e.first (drop i es) (length vs)
-    pub behind : FollowFrom (e.first + e.len) (drop (suc i) es) (length vs)
-    pub few : e.len ≤ 8
-    pub within : e.first + e.len ≤ length vs
+    pub behind : FollowFrom (e.first + len_of e) (drop (suc i) es) (length vs)
+    pub few : len_of e ≤ 8
+    pub within : e.first + len_of e ≤ length vs
 
   stands_from : (e : Entry) (m : ℕ) → drop i es ≡ e ∷ drop (suc i) es → FollowFrom 0 (take i es) m → FollowFrom m (drop i es) (length vs) → Stands e
   stands_from e m split f g =
       let h = subst (λ xs. FollowFrom m xs (length vs)) split g in
-      let behind = subst (λ n. FollowFrom (n + e.len) (drop (suc i) es) (length vs)) (sym h.0) h.2 in
+      let behind = subst (λ n. FollowFrom (n + len_of e) (drop (suc i) es) (length vs)) (sym h.0) h.2 in
       record {
         before = subst (λ n. FollowFrom 0 (take i es) n) (sym h.0) f;
         here = subst (λ n. FollowFrom n (drop i es) (length vs)) (sym h.0) g;
         behind = behind;
         few = h.1;
-        within = omega (arith, all_of (e.first + e.len) (length vs) (drop (suc i) es) behind);
+        within = omega (arith, all_of (e.first + len_of e) (length vs) (drop (suc i) es) behind);
       }
 
   pub stands : (e : Entry) → i < length es → e ≡ get_or es i e → Stands e
@@ -172,23 +174,23 @@ module _ (es : List Entry) (vs : List Value) (follow : FollowFrom 0 es (length v
 
 -- ---- an entry more, another row, an entry less
 
-module _ (es : List Entry) (vs row : List Value) (i : ℕ) (y : Entry) (first : ℕ) (at : y.first ≡ first) (long : y.len ≡ length row) (few : length row ≤ 8) where
+module _ (es : List Entry) (vs row : List Value) (i : ℕ) (y : Entry) (first : ℕ) (at : y.first ≡ first) (long : len_of y ≡ length row) (few : length row ≤ 8) where
   pub put_both : FollowFrom 0 (take i es) first → FollowFrom first (drop i es) (length vs)
-      → (map (pair_of (take first vs ++ (row ++ drop first vs))) (take i es ++ y ∷ lined_up (first + length row) (drop i es)) ≡ insert (map (pair_of vs) es) i (y.thing, (y.count, as_row row)))
+      → (map (pair_of (take first vs ++ (row ++ drop first vs))) (take i es ++ y ∷ lined_up (first + length row) (drop i es)) ≡ insert (map (pair_of vs) es) i (y.thing, (y.count, lying_of row (block_in y.place))))
       × FollowFrom 0 (take i es ++ y ∷ lined_up (first + length row) (drop i es)) (length (take first vs ++ (row ++ drop first vs)))
   put_both f g = (
     pairs_with vs row (take i es) (drop i es) first first f g (omega arith) y at long
-        ∙ (λ j. sym (take-map (pair_of vs) i es) j ++ (y.thing, (y.count, as_row row)) ∷ sym (drop-map (pair_of vs) i es) j),
+        ∙ (λ j. sym (take-map (pair_of vs) i es) j ++ (y.thing, (y.count, lying_of row (block_in y.place))) ∷ sym (drop-map (pair_of vs) i es) j),
     follow_with vs row (take i es) (drop i es) first first f g (omega arith) y at long few,
   )
 
   pub set_both : (len : ℕ) → i < length es → FollowFrom 0 (take i es) first → FollowFrom (first + len) (drop (suc i) es) (length vs)
-      → (map (pair_of (take first vs ++ (row ++ drop (first + len) vs))) (take i es ++ y ∷ lined_up (first + length row) (drop (suc i) es)) ≡ set (map (pair_of vs) es) i (y.thing, (y.count, as_row row)))
+      → (map (pair_of (take first vs ++ (row ++ drop (first + len) vs))) (take i es ++ y ∷ lined_up (first + length row) (drop (suc i) es)) ≡ set (map (pair_of vs) es) i (y.thing, (y.count, lying_of row (block_in y.place))))
       × FollowFrom 0 (take i es ++ y ∷ lined_up (first + length row) (drop (suc i) es)) (length (take first vs ++ (row ++ drop (first + len) vs)))
   set_both len l f g = (
     pairs_with vs row (take i es) (drop (suc i) es) first (first + len) f g (omega arith) y at long
-        ∙ (λ j. sym (take-map (pair_of vs) i es) j ++ (y.thing, (y.count, as_row row)) ∷ sym (drop-map (pair_of vs) (suc i) es) j)
-        ∙ sym (set_split (map (pair_of vs) es) i (y.thing, (y.count, as_row row)) (omega (arith, l, length-map es (pair_of vs)))),
+        ∙ (λ j. sym (take-map (pair_of vs) i es) j ++ (y.thing, (y.count, lying_of row (block_in y.place))) ∷ sym (drop-map (pair_of vs) (suc i) es) j)
+        ∙ sym (set_split (map (pair_of vs) es) i (y.thing, (y.count, lying_of row (block_in y.place))) (omega (arith, l, length-map es (pair_of vs)))),
     follow_with vs row (take i es) (drop (suc i) es) first (first + len) f g (omega arith) y at long few,
   )
 
@@ -206,8 +208,8 @@ less_both es vs i first len f g =
     )
 
 -- the same at the end
-pub end_both : (es : List Entry) (vs row : List Value) (i : ℕ) (y : Entry) → i ≡ length es → y.first ≡ length vs → y.len ≡ length row → length row ≤ 8 → FollowFrom 0 es (length vs)
-    → (map (pair_of (vs ++ row)) (es ++ y ∷ []) ≡ insert (map (pair_of vs) es) i (y.thing, (y.count, as_row row))) × FollowFrom 0 (es ++ y ∷ []) (length (vs ++ row))
+pub end_both : (es : List Entry) (vs row : List Value) (i : ℕ) (y : Entry) → i ≡ length es → y.first ≡ length vs → len_of y ≡ length row → length row ≤ 8 → FollowFrom 0 es (length vs)
+    → (map (pair_of (vs ++ row)) (es ++ y ∷ []) ≡ insert (map (pair_of vs) es) i (y.thing, (y.count, lying_of row (block_in y.place)))) × FollowFrom 0 (es ++ y ∷ []) (length (vs ++ row))
 end_both es vs row i y last at long few follow =
     let n = length vs in
     let all = take_all i es (omega (arith, last)) in
@@ -243,24 +245,21 @@ module _ (es fs : List Entry) (i at : ℕ) where
 
 -- one entry more is lined up
 pub line_step : (es : List Entry) (i at : ℕ) (e : Entry) → i < length es → e ≡ get_or es i e
-    → take (i + 1) (set es i (record e { first = at })) ++ lined_up (at + e.len) (drop (i + 1) (set es i (record e { first = at }))) ≡ take i es ++ lined_up at (drop i es)
+    → take (i + 1) (set es i (record e { first = at })) ++ lined_up (at + len_of e) (drop (i + 1) (set es i (record e { first = at }))) ≡ take i es ++ lined_up at (drop i es)
 line_step es i at e l is =
-    set_line es (set es i (record e { first = at })) i (at + e.len) (record e { first = at }) l refl
-    ∙ ap (λ n. take i es ++ record e { first = at } ∷ lined_up (at + e.len) (drop n es)) (sym (next i))
+    set_line es (set es i (record e { first = at })) i (at + len_of e) (record e { first = at }) l refl
+    ∙ ap (λ n. take i es ++ record e { first = at } ∷ lined_up (at + len_of e) (drop n es)) (sym (next i))
     ∙ ap (λ xs. take i es ++ lined_up at xs) (ap (λ x. x ∷ drop (i + 1) es) is ∙ sym (drop_more es i e l))
 
 -- an entry that keeps its place and its length
-pub same_follow : (at end : ℕ) (es : List Entry) (i : ℕ) (e y : Entry) → i < length es → e ≡ get_or es i e → y.first ≡ e.first → y.len ≡ e.len → FollowFrom at es end → FollowFrom at (set es i y) end
+pub same_follow : (at end : ℕ) (es : List Entry) (i : ℕ) (e y : Entry) → i < length es → e ≡ get_or es i e → y.first ≡ e.first → len_of y ≡ len_of e → FollowFrom at es end → FollowFrom at (set es i y) end
 same_follow at end [] i e y l is first len f = absurd (omega (arith, l))
 same_follow at end (x ∷ es) zero e y l is first len f =
-    let long : y.len ≡ x.len = len ∙ ap (λ (z : Entry). z.len) is in
+    let long : len_of y ≡ len_of x = len ∙ ap len_of is in
     (first ∙ ap (λ (z : Entry). z.first) is ∙ f.0, omega (arith, long, f.1), subst (λ n. FollowFrom (at + n) es end) (sym long) f.2)
-same_follow at end (x ∷ es) (suc i) e y l is first len f = (f.0, f.1, same_follow (at + x.len) end es i e y (omega (arith, l)) is first len f.2)
+same_follow at end (x ∷ es) (suc i) e y l is first len f = (f.0, f.1, same_follow (at + len_of x) end es i e y (omega (arith, l)) is first len f.2)
 
--- an entry that stays, where those behind it are lined up
-pub same_line : (es : List Entry) (vs : List Value) (i : ℕ) (e : Entry) (n : ℕ) → i < length es → e ≡ get_or es i e → n ≡ e.first + e.len → FollowFrom (e.first + e.len) (drop (suc i) es) (length vs)
-    → es ≡ take i es ++ e ∷ lined_up n (drop (suc i) es)
-same_line es vs i e n l is at f =
-    sym (take-append-drop i es)
-    ∙ ap (λ xs. take i es ++ xs) (drop_more es i e l ∙ (λ j. sym is j ∷ drop (next i j) es))
-    ∙ ap (λ xs. take i es ++ e ∷ xs) (sym (lined_same (e.first + e.len) (length vs) (drop (suc i) es) f) ∙ ap (λ k. lined_up k (drop (suc i) es)) (sym at))
+-- an entry that is written, where those behind it are lined up
+pub set_alone : (es : List Entry) (vs : List Value) (i : ℕ) (y : Entry) (n : ℕ) → i < length es → FollowFrom n (drop (suc i) es) (length vs)
+    → set es i y ≡ take i es ++ y ∷ lined_up n (drop (suc i) es)
+set_alone es vs i y n l f = set_split es i y l ∙ ap (λ xs. take i es ++ y ∷ xs) (sym (lined_same n (length vs) (drop (suc i) es) f))

@@ -1,5 +1,5 @@
 -- How many things are not held, one by one and as entries come.
-use Rattle.std.proofs.Common.{◌≡◌, ℕ, ◌+◌, ◌<◌, ◌≤◌, Bool, true, false, cond, List, [], ◌∷◌, length, get_or, drop, Option, Some, None, sym, ap, ◌∙◌, arith}
+use Rattle.std.proofs.Common.{◌≡◌, ℕ, ◌+◌, ◌<◌, ◌≤◌, Bool, true, false, cond, List, [], ◌∷◌, length, get_or, drop, Option, Some, None, refl, sym, ap, ◌∙◌, arith}
 use Rattle.std.specs.Prelude.{is_some}
 use Rattle.std.specs.FinMap as m
 use Rattle.std.specs.Ordering.{eq_by_cmp}
@@ -10,13 +10,15 @@ use Rattle.orca_names.specs.Names.{thing_cmp}
 use Rattle.orca_names.specs.declared.names.Thing.{Thing}
 use Rattle.orca_names.proofs.ThingOrder.{thing_total}
 use Rattle.letter_kinds.specs.Holdings.{Entries, Row}
+use Rattle.foreign_table.specs.Mapped.{mapped}
 use Rattle.foreign_table.specs.Table.{Table, count_on, count_unheld, entered}
+use Rattle.foreign_table.proofs.Mapped.{some-mapped}
 
 -- one where there is no entry
-abbrev one_if_none : Option (ℕ × Option Row) → ℕ
+abbrev one_if_none : {X : Type 0} → Option X → ℕ
 one_if_none o = cond (is_some o) 0 1
 
-module _ (entries : Entries) where
+module _ {X : Type 0} (entries : m.FinMap thing_cmp X) where
   abbrev unheld : Thing × ℕ → ℕ
   unheld e = one_if_none (m.get entries e.0)
 
@@ -53,7 +55,14 @@ module _ (t : Table) (e : Thing × ℕ) (things : List (Thing × ℕ)) (room : c
       let one = ap one_if_none none in
       omega (arith, room, first_unheld t.entries e things, one)
 
-  pub room_left : (change : ℕ → ℕ) (row : Option Row) → count_unheld things (entered change e.0 row t).entries ≤ (entered change e.0 row t).spare
-  room_left change row =
+  pub room_left : (change : ℕ → ℕ) (row : Option Row) (block : Option ℕ) → count_unheld things (entered change e.0 row block t).entries ≤ (entered change e.0 row block t).spare
+  room_left change row block =
       let less = unheld_less t.entries e.0 (change (count_on t e.0), row) things in
       omega (arith, room, first_unheld t.entries e things, less)
+
+-- what is made of values does not matter
+pub unheld-mapped : {X Y : Type 0} (f : Thing → X → Y) (t : m.FinMap thing_cmp X) (things : List (Thing × ℕ)) → count_unheld things (mapped f t) ≡ count_unheld things t
+unheld-mapped f t [] = refl
+unheld-mapped f t (e ∷ things) =
+    let first = ap {B = ℕ} (λ b. cond b 0 1) (some-mapped f t e.0) in
+    omega (arith, first_unheld (mapped f t) e things, first_unheld t e things, unheld-mapped f t things, first)

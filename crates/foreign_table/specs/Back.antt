@@ -1,5 +1,5 @@
 -- Counts that go back to their owners.
-use Rattle.std.specs.Prelude.{ℕ, ◌+◌, ◌-◌, Bool, false, not, List, Option, is_some, T}
+use Rattle.std.specs.Prelude.{ℕ, ◌+◌, ◌-◌, Bool, false, not, List, is_some, T}
 use Rattle.std.specs.Option.{option_map_or}
 use Rattle.std.specs.Ordering.{nat_cmp}
 use Rattle.std.specs.List.{list_all}
@@ -8,7 +8,6 @@ use Rattle.std.specs.FinMap.Entries.{find, is_sorted}
 use Rattle.orca_names.specs.Names.{owner_of, thing_cmp}
 use Rattle.orca_names.specs.declared.names.Thing.{Thing}
 use Rattle.letter_kinds.specs.Counting.{Amount}
-use Rattle.letter_kinds.specs.Holdings.{Row}
 use Rattle.foreign_table.specs.Table.{Table, count_values}
 
 -- owners rise, and the things of each
@@ -23,15 +22,21 @@ goes_back back x =
     false
 
 -- an entry that does not go back
-abbrev pub is_kept : List (ℕ × List Amount) → Thing × (ℕ × Option Row) → Bool
+abbrev pub is_kept : {X : Type 0} → List (ℕ × List Amount) → Thing × X → Bool
 is_kept back e = not (goes_back back e.0)
 
--- the others stay, and the places of these and of their values are room
+-- the others stay
+abbrev pub with_kept : List (ℕ × List Amount) → Table → Table
+with_kept back t = record t {
+  entries = m.retain_keys t.entries (λ x. not (goes_back back x));
+  blocks = m.retain_keys t.blocks (λ x. not (goes_back back x));
+}
+
+-- and the places of these and of their values are room
 abbrev pub given_up : List (ℕ × List Amount) → Table → Table
 given_up back t =
-    let entries = m.retain_keys t.entries (λ x. not (goes_back back x)) in
-    record {
-      spare = t.spare + (m.len t.entries - m.len entries);
-      spare_values = t.spare_values + (count_values t.entries - count_values entries);
-      entries = entries;
+    let kept = with_kept back t in
+    record kept {
+      spare = t.spare + (m.len t.entries - m.len kept.entries);
+      spare_values = t.spare_values + (count_values t - count_values kept);
     }

@@ -1,5 +1,7 @@
 // What an actor holds, for its turns.
 
+ghost use Rattle.std.specs.Prelude.{◌≡◌};
+
 use crate::table::ForeignTable;
 use orca_names::{ActorName, HeldTest, Thing};
 

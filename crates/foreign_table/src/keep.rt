@@ -65,7 +65,7 @@ pub(crate) fn keep_others(
             near.step();
             continue;
         }
-        let len = entry.len as usize;
+        let len = entry.place.len();
         move_row(values, entry.first, len, kept_values);
         move_entry(held, i, kept, kept_values);
         kept += 1;

@@ -1,6 +1,6 @@
 // Where a thing stands among those that are held.
 
-ghost use Rattle.std.specs.Prelude.{◌≡◌, ◌≢◌, ◌↔◌, ◌-◌, ◌<◌, ◌≤◌, IfSome, IsTrue, length, map, slice_index_or};
+ghost use Rattle.std.specs.Prelude.{◌≡◌, ◌≢◌, ◌↔◌, ◌-◌, ◌^◌, ◌<◌, ◌≤◌, IfSome, IsTrue, length, map, slice_index_or};
 ghost use Rattle.std.specs.Bool.{OnFalse};
 ghost use Rattle.std.specs.Result.{MatchResult};
 ghost use Rattle.std.specs.declared.cmp.Ordering.TheVariants.{Less};
@@ -8,7 +8,7 @@ ghost use Rattle.orca_names.specs.Names.{thing_cmp};
 ghost use Rattle.orca_names.specs.declared.names.Thing.TheVariants.{Obj as object};
 ghost use Rattle.plain_list.specs.Rising.{IsAt, IsGap};
 ghost use Rattle.foreign_table.specs.declared.search.Entry.{Entry as entry};
-ghost use Rattle.foreign_table.specs.Entry.{amount_of};
+ghost use Rattle.foreign_table.specs.Entry.{amount_of, len_in};
 ghost use Rattle.foreign_table.specs.Table.{DoRise};
 
 use orca_names::{ObjName, Thing};
@@ -17,14 +17,37 @@ use ref_weights::Held;
 // Among so few things one is found soonest by looking at them in turn.
 const FEW: usize = 8;
 
-/// A thing of another actor, what is held on it and, for an object, where the values of its row
-/// begin and how many they are; 0 where no row is known.
+/// Where the values of a row lie.
+#[derive(Clone, Copy, Debug, PartialEq, Eq)]
+pub(crate) enum Place {
+    /// Aside, so many of them; 0 where no row is known.
+    Here(u8),
+    /// In this block.
+    In(u32),
+}
+
+impl Place {
+    /// How many values lie aside.
+    #[inline(always)]
+    pub(crate) fn len(&self) -> usize
+        ensures len { result ≡ len_in self.now }
+        ensures small { result < 2 ^ 8 }
+    {
+        match self {
+            Place::Here(len) => *len as usize,
+            Place::In(_) => 0,
+        }
+    }
+}
+
+/// A thing of another actor, what is held on it, where the values of its row begin that lie aside,
+/// and which these are.
 #[derive(Clone, Copy, Debug, PartialEq, Eq)]
 pub(crate) struct Entry {
     pub(crate) thing: Thing,
     pub(crate) count: Held,
     pub(crate) first: usize,
-    pub(crate) len: u8,
+    pub(crate) place: Place,
 }
 
 /// Whether a thing comes before another.

@@ -1,7 +1,7 @@
 // Where the things of one owner stand.
 
 ghost use Rattle.std.specs.Prelude.{◌≡◌, ◌≢◌, ℕ, ◌≤◌, ◌<◌, length, map, slice_index_or};
-ghost use Rattle.orca_names.specs.Names.{owner_of};
+ghost use Rattle.orca_names.specs.Names.{owner_of, thing_cmp};
 ghost use Rattle.foreign_table.specs.declared.search.Entry.{Entry as entry};
 ghost use Rattle.foreign_table.specs.Span.{IsSpan};
 ghost use Rattle.foreign_table.specs.Table.{DoRise};

@@ -1,26 +1,29 @@
 // The table.
 
-ghost use Rattle.std.specs.Prelude.{◌≡◌, ◌↔◌, ◌+◌, ◌-◌, ◌^◌, ◌<◌, ◌≤◌, List, [], Some, None, length, map, slice_get, IfOk, IfSome, IsOk, IsSome, IsTrue, MatchOption, OnOk, is_some};
-ghost use Rattle.std.specs.Option.{option_copied};
+ghost use Rattle.std.specs.Prelude.{◌≡◌, ◌≢◌, ◌↔◌, ◌+◌, ◌-◌, ◌^◌, ◌<◌, ◌≤◌, List, [], Option, Some, None, length, map, slice_get, IfOk, IfSome, IsOk, IsSome, IsTrue, MatchOption, OnOk, is_some};
 ghost use Rattle.std.specs.FinMap as m;
 ghost use Rattle.orca_names.specs.Names.{thing_cmp};
+ghost use Rattle.orca_names.specs.declared.names.Thing.{Thing as any_thing};
 ghost use Rattle.orca_names.specs.declared.names.Value as names;
 ghost use Rattle.plain_list.specs.Rising.{IsAt};
 ghost use Rattle.foreign_table.specs.Back.{BackRises, given_up};
 ghost use Rattle.foreign_table.specs.Entry.{amount_of, pair_of};
 ghost use Rattle.foreign_table.specs.Span.{IsSpan};
-ghost use Rattle.foreign_table.specs.Table.{DoRise, Table, count_on, count_unheld, counted, entered, entries_in, known_row, on_actors, row_length, without};
-ghost use Rattle.letter_kinds.specs.Holdings.{entry_row};
-ghost use Rattle.row_store.specs.Told.{row_here};
+ghost use Rattle.foreign_table.specs.Table.{AllHere, DoRise, IsSame, Table, block_at, count_on, count_unheld, counted, entered, kept_in, known_block, known_row, no_table, on_actors, row_length, without};
+ghost use Rattle.letter_kinds.specs.Holdings.{Row as any_row, entry_row};
+ghost use Rattle.row_store.specs.Lent.{IsLent};
+ghost use Rattle.row_store.specs.Memory.{remembered};
+ghost use Rattle.row_store.specs.Standing.{AreRemembered};
+ghost use Rattle.row_store.specs.Told.{row_here, thing_row, told_block, told_row};
 ghost use Rattle.ref_weights.specs.Limit.{count_limit};
 
-use crate::aside::{put_entry, raise, row_of, take_entry, told_values};
+use crate::aside::{lend, put_entry, raise, take_entry, told_values};
 use crate::keep::keep_others;
 use crate::search::{Entry, place_of};
 use crate::span::span;
 use letter_kinds::Amounts;
 use orca_names::{ActorName, NoMemory, ObjName, Thing, Value};
-use row_store::Told;
+use row_store::{Lent, Remembered, Told};
 use std::alloc::Global;
 use std::marker::Model;
 
@@ -32,33 +35,34 @@ const FIRST_PLACES: usize = 4;
 #[derive(Drop)]
 pub struct ForeignTable {
     held: Vec<Entry>,
-    // Of the rows, one behind another in the order of their entries.
+    // Of the rows at hand, one behind another in the order of their entries.
     values: Vec<Value>,
+    // The rows that lie in blocks.
+    memory: Remembered,
 }
 
 impl Model for ForeignTable {
     ghost use Rattle.std.specs.Prelude.{◌-◌, length, vec_len, vec_capacity};
     ghost use Rattle.foreign_table.specs.Entry.{FollowFrom};
-    ghost use Rattle.foreign_table.specs.Table.{DoRise, Table, coded_table, entries_in};
+    ghost use Rattle.foreign_table.specs.Table.{AreRecalled, DoRise, Table, coded_table, kept_in, seen_by};
+    ghost use Rattle.row_store.specs.Memory.{remembered};
 
     ghost Value = { Table };
 
     ghost coded = { coded_table };
 
-    ghost view = { λ s. record {
-      spare = vec_capacity s.held - vec_len s.held;
-      spare_values = vec_capacity s.values - vec_len s.values;
-      entries = entries_in s.values.items s.held.items;
-    } };
+    ghost view = { λ s. seen_by (remembered s.memory) (vec_capacity s.held - vec_len s.held)
+        (vec_capacity s.values - vec_len s.values) (kept_in s.values.items s.held.items) };
 
     ghost invariant = { λ s. DoRise s.held.items
-        × FollowFrom 0 s.held.items (length s.values.items) };
+        × FollowFrom 0 s.held.items (length s.values.items)
+        × AreRecalled (remembered s.memory) (kept_in s.values.items s.held.items) };
 }
 
 // The place of a thing that is there.
 fn place_there(held: &[Entry], thing: Thing) -> usize
     requires own { DoRise held.now }
-    requires there { (values : List names.Value) × IsSome (m.get (entries_in values held.now) thing) }
+    requires there { (values : List names.Value) × IsSome (m.get (kept_in values held.now) thing) }
     ensures { IsAt thing_cmp (map amount_of held.now) thing result }
 {
     match place_of(held, thing) {
@@ -82,7 +86,7 @@ fn places_to_take(wanted: usize, capacity: usize) -> usize
 
 fn is_held(held: &[Entry], thing: Thing) -> bool
     requires { DoRise held.now }
-    ensures { (values : List names.Value) → result ≡ is_some (m.get (entries_in values held.now) thing) }
+    ensures { (values : List names.Value) → result ≡ is_some (m.get (kept_in values held.now) thing) }
 {
     match place_of(held, thing) {
         Ok(_) => true,
@@ -94,7 +98,7 @@ fn is_held(held: &[Entry], thing: Thing) -> bool
 fn count_unheld(held: &[Entry], things: &Amounts) -> usize
     requires { DoRise held.now }
     ensures { (values : List names.Value)
-        → result ≡ count_unheld things.now (entries_in values held.now) }
+        → result ≡ count_unheld things.now (kept_in values held.now) }
 {
     let mut count = 0;
     for amount in things.as_slice() {
@@ -142,14 +146,32 @@ fn same_values(values: &[Value], others: &[Value]) -> bool
     values == others
 }
 
+// A row that is told to lie in a block is remembered as it is there.
+#[inline(always)]
+fn remember(memory: &mut Remembered, thing: &Thing, told: &Told, from: &Remembered)
+    ensures here { IsSome (told_block told.now) → thing_row (remembered memory.new) thing.now
+        ≡ thing_row (remembered from.now) thing.now }
+    ensures others { (x : any_thing) → x ≢ thing.now
+        → thing_row (remembered memory.new) x ≡ thing_row (remembered memory.old) x }
+{
+    let Told::In(_) = told else {
+        return;
+    };
+    let Thing::Obj(n) = thing else {
+        return;
+    };
+    memory.know_from(*n, from);
+}
+
 impl ForeignTable {
     /// Nothing is held. It takes no memory.
     pub fn new(alloc: Global) -> ForeignTable
-        ensures { result ≡ record { spare = 0; spare_values = 0; entries = m.empty } }
+        ensures { result ≡ no_table }
     {
         ForeignTable {
             held: Vec::new(alloc),
             values: Vec::new(alloc),
+            memory: Remembered::new(),
         }
     }
 
@@ -210,25 +232,24 @@ impl ForeignTable {
         Ok(())
     }
 
-    /// The count on a thing rises, from 0 where nothing was held, and its row is the one that is told.
-    /// It takes no memory.
+    /// The count on a thing rises, from 0 where nothing was held, and its row is the one that is told;
+    /// in a block it is the one that is remembered there. It takes no memory.
     #[inline(always)]
-    pub fn gain(&mut self, thing: Thing, told: &Told, by: u64)
+    pub fn gain(&mut self, thing: Thing, told: &Told, from: &Remembered, by: u64)
         requires room { m.get self.old.entries thing ≡ None → 0 < self.old.spare }
         requires values { row_length (row_here told.now) ≤ self.old.spare_values }
+        requires told { IsSome (told_block told.now)
+            → IsSome (told_row (remembered from.now) thing told.now) }
         requires fits { count_on self.old thing + by < count_limit }
-        ensures { self.new ≡ entered (λ count. count + by) thing (row_here told.now) self.old }
+        ensures { let row = told_row (remembered from.now) thing told.now in
+            self.new ≡ entered (λ count. count + by) thing row (told_block told.now) self.old }
     {
+        remember(&mut self.memory, &thing, told, from);
+        let row = told_values(told);
+        let block = told.block();
         match place_of(self.held.as_slice(), thing) {
-            Ok(i) => raise(&mut self.held, &mut self.values, i, by, told_values(told)),
-            Err(i) => put_entry(
-                &mut self.held,
-                &mut self.values,
-                i,
-                &thing,
-                by,
-                told_values(told),
-            ),
+            Ok(i) => raise(&mut self.held, &mut self.values, i, by, row, block),
+            Err(i) => put_entry(&mut self.held, &mut self.values, i, &thing, by, row, block),
         }
     }
 
@@ -259,11 +280,12 @@ impl ForeignTable {
         requires room { m.get self.old.entries thing ≡ None → 0 < self.old.spare }
         requires fits { count_on self.old thing + by < count_limit }
         ensures { let row = entry_row (m.get self.old.entries thing) in
-            self.new ≡ entered (λ count. count + by) thing row self.old }
+            let block = block_at self.old.blocks thing in
+            self.new ≡ entered (λ count. count + by) thing row block self.old }
     {
         match place_of(self.held.as_slice(), thing) {
             Ok(i) => self.held[i].count.mint(by),
-            Err(i) => put_entry(&mut self.held, &mut self.values, i, &thing, by, &[]),
+            Err(i) => put_entry(&mut self.held, &mut self.values, i, &thing, by, &[], None),
         }
     }
 
@@ -291,39 +313,43 @@ impl ForeignTable {
 
     /// The row that is known of an object.
     #[inline(always)]
-    pub fn row(&self, n: ObjName) -> Option<&[Value]>
-        ensures row { option_copied result ≡ known_row self.now n }
-        ensures room { IfSome result (λ values. (1 ≤ length values.now) × (length values.now ≤ 8)) }
+    pub fn row(&self, n: ObjName) -> Lent<'_>
+        ensures { IsLent (known_row self.now n) (known_block self.now n) result }
     {
         match place_of(self.held.as_slice(), Thing::Obj(n)) {
-            Ok(i) => row_of(&self.held[i], self.values.as_slice()),
-            Err(_) => None,
+            Ok(i) => lend(&self.held[i], self.values.as_slice()),
+            Err(_) => Lent::Nothing,
         }
+    }
+
+    /// The rows that lie in blocks.
+    #[inline(always)]
+    pub fn memory(&self) -> &Remembered
+        ensures { AreRemembered (known_row self.now) (known_block self.now) (remembered result.now) }
+    {
+        &self.memory
     }
 
     /// How many things are held.
     pub fn len(&self) -> usize
         ensures count { result ≡ m.len self.now.entries }
+        ensures blocks { result ≡ m.len self.now.blocks }
         ensures bound { result < 2 ^ 63 }
     {
         self.held.len()
     }
 
     /// An entry by its place in the order of things: the thing, its count and its row.
-    pub fn at(&self, i: usize) -> (Thing, u64, Option<&[Value]>)
+    pub fn at(&self, i: usize) -> (Thing, u64, Lent<'_>)
         requires { i < m.len self.now.entries }
-        ensures entry { slice_get (m.entries self.now.entries) i
-            ≡ Some (result.0, (result.1, option_copied result.2)) }
+        ensures entry { (row : Option any_row)
+            × (slice_get (m.entries self.now.entries) i ≡ Some (result.0, (result.1, row)))
+            × IsLent row (block_at self.now.blocks result.0) result.2 }
         ensures bound { result.1 < count_limit }
-        ensures room { IfSome result.2
-            (λ values. (1 ≤ length values.now) × (length values.now ≤ 8)) }
     {
         let entry = &self.held[i];
-        (
-            entry.thing,
-            entry.count.get(),
-            row_of(entry, self.values.as_slice()),
-        )
+        let row = lend(entry, self.values.as_slice());
+        (entry.thing, entry.count.get(), row)
     }
 
     /// The thing at a place in the order of things.
@@ -353,17 +379,17 @@ impl ForeignTable {
     }
 
     /// What is held on a thing: its count and its row; `None` exactly where it is not held.
-    pub fn entry(&self, thing: Thing) -> Option<(u64, Option<&[Value]>)>
+    pub fn entry(&self, thing: Thing) -> Option<(u64, Lent<'_>)>
         ensures entry { MatchOption result (m.get self.now.entries thing ≡ None)
-            (λ e. m.get self.now.entries thing ≡ Some (e.0, option_copied e.1)) }
+            (λ e. (row : Option any_row) × (m.get self.now.entries thing ≡ Some (e.0, row))
+            × IsLent row (block_at self.now.blocks thing) e.1) }
         ensures bound { IfSome result (λ e. e.0 < count_limit) }
-        ensures room { IfSome result (λ e. IfSome e.1
-            (λ values. (1 ≤ length values.now) × (length values.now ≤ 8))) }
     {
         match place_of(self.held.as_slice(), thing) {
             Ok(i) => {
                 let entry = &self.held[i];
-                Some((entry.count.get(), row_of(entry, self.values.as_slice())))
+                let row = lend(entry, self.values.as_slice());
+                Some((entry.count.get(), row))
             }
             Err(_) => None,
         }
@@ -389,12 +415,19 @@ impl ForeignTable {
     {
         let held = self.held.as_slice().to_vec(alloc)?;
         let values = self.values.as_slice().to_vec(alloc)?;
-        Ok(ForeignTable { held, values })
+        Ok(ForeignTable {
+            held,
+            values,
+            memory: self.memory.again(),
+        })
     }
 
-    /// Whether the entries are those of another table.
+    /// Whether the entries are those of another table. No row lies in a block.
     pub fn same(&self, other: &ForeignTable) -> bool
-        ensures { IsTrue result ↔ (self.now.entries ≡ other.now.entries) }
+        requires { AllHere self.now }
+        ensures same { IsTrue result ↔ IsSame self.now other.now }
+        ensures alike { AllHere other.now → self.now.entries ≡ other.now.entries
+            → self.now.blocks ≡ other.now.blocks }
     {
         same_entries(self.held.as_slice(), other.held.as_slice())
             && same_values(self.values.as_slice(), other.values.as_slice())

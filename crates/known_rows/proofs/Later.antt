@@ -1,6 +1,6 @@
 -- Objects that a turn made, behind those of before.
 use Rattle.std.proofs.Common.{◌≡◌, ◌≢◌, inl, inr, ℕ, zero, suc, ◌+◌, ◌-◌, ◌<◌, ◌≤◌, ◌==◌, ◌&&◌, nat_le, Bool, true, false, cond, List, [], ◌∷◌, ◌++◌, length, get_or, map, slice_get, Option, Some, None, refl, sym, ap, subst, ◌∙◌, arith, length-append}
-use Rattle.std.specs.Prelude.{nat_lt, position}
+use Rattle.std.specs.Prelude.{if◌then◌else◌, is_some, nat_lt, position}
 use Rattle.std.specs.Ordering.{nat_cmp}
 use Rattle.std.specs.Cmp.{nat_cmp_total}
 use Rattle.std.specs.declared.cmp.Ordering.TheVariants.{Greater, Less}
@@ -14,7 +14,7 @@ use Rattle.orca_names.specs.Names.{is_thing}
 use Rattle.orca_names.specs.declared.names.ObjName.{ObjName}
 use Rattle.orca_names.specs.declared.names.Thing.{Thing}
 use Rattle.orca_names.specs.declared.names.Thing.TheVariants.{Actor, Obj}
-use Rattle.reach_walk.specs.Reach.{thing_row}
+use Rattle.row_store.specs.Told.{Lying, thing_lies}
 use Rattle.letter_kinds.specs.Holdings.{OwnRows, Row, add_rows, row_of, with_made}
 use Rattle.plain_list.specs.Rising.{IsGap}
 use Rattle.plain_list.proofs.Rising.{put_gap, rises}
@@ -22,10 +22,10 @@ use Rattle.object_heap.specs.Heap.{Heap, with_new}
 use Rattle.foreign_table.specs.Table.{Table}
 use Rattle.known_rows.specs.Holdings.{holdings_of}
 use Rattle.known_rows.specs.InOrder.{AreInOrder}
-use Rattle.known_rows.specs.Known.{row_known, row_known-row_of}
+use Rattle.known_rows.specs.Known.{block_known, row_known, row_known-row_of}
 use Rattle.known_rows.specs.PlaceLaws.{placed_in_order}
 use Rattle.known_rows.specs.Places.{held_above, held_below, own_things, place_in, placed_things}
-use Rattle.known_rows.specs.InTurn.{ComeLater, made_in_turn, made_thing}
+use Rattle.known_rows.specs.InTurn.{ComeLater, made_in_turn, made_thing, turn_block}
 use Rattle.known_rows.proofs.Between.{has_none, more, place_kept, place_moved, place_new}
 use Rattle.known_rows.proofs.Made.{or_before, row_of-made}
 
@@ -140,7 +140,7 @@ module _ (heap : Heap) (foreign : Table) (made : List Row) (come : ComeLater hea
   new_at i d l =
       get_or-map object (from_on heap.next made) i 0 d (omega (arith, from_on-length heap.next made)) ∙ ap object (from_on-at heap.next made i 0 l)
 
-  placed_added : placed_things (with_new made heap) foreign ≡ (lower ++ new_things) ++ upper
+  placed_added : placed_things (with_new made [] heap) foreign ≡ (lower ++ new_things) ++ upper
   placed_added =
       ap (λ xs. (held_below heap foreign ++ Actor heap.owner ∷ xs) ++ upper) (ap (map object) (keys_added heap.next made heap.rows come.later) ∙ map-append object (m.keys heap.rows) (from_on heap.next made))
       ∙ ap (λ xs. xs ++ upper) (sym (append_assoc (held_below heap foreign) (Actor heap.owner ∷ own_things heap) new_things))
@@ -149,19 +149,19 @@ module _ (heap : Heap) (foreign : Table) (made : List Row) (come : ComeLater hea
   before = placed_in_order heap foreign
 
   after : AreInOrder ((lower ++ new_things) ++ upper)
-  after = subst AreInOrder placed_added (placed_in_order (with_new made heap) foreign)
+  after = subst AreInOrder placed_added (placed_in_order (with_new made [] heap) foreign)
 
   pub lower_within : length lower ≤ length (placed_things heap foreign)
   lower_within = omega (arith, length-append lower upper)
 
   -- the place of a thing in the turn
   abbrev pub turn_place : Thing → Option ℕ
-  turn_place x = place_in (with_new made heap) foreign x
+  turn_place x = place_in (with_new made [] heap) foreign x
 
   turned : (x : Thing) → turn_place x ≡ position (is_thing x) ((lower ++ new_things) ++ upper)
   turned x = ap (position (is_thing x)) placed_added
 
-  pub turn_count : length (placed_things (with_new made heap) foreign) ≡ length (placed_things heap foreign) + length made
+  pub turn_count : length (placed_things (with_new made [] heap) foreign) ≡ length (placed_things heap foreign) + length made
   turn_count = ap length placed_added ∙ more lower new_things upper before after ∙ ap (λ n. length (lower ++ upper) + n) new_count
 
   pub turn_kept : (x : Thing) (p : ℕ) → place_in heap foreign x ≡ Some p → p < length lower → turn_place x ≡ Some p
@@ -202,18 +202,28 @@ module _ (heap : Heap) (foreign : Table) (made : List Row) (come : ComeLater hea
   of_made n row true e false f is = absurd (none-some row is)
   of_made n row false e from f is = absurd (none-some row is)
 
-  -- what was not made has the row of before
-  pub row_of_before : (x : Thing) → ((i : ℕ) → i < length made → x ≢ made_thing heap i) → thing_row turn_row x ≡ thing_row (row_known heap foreign) x
-  row_of_before (Actor a) other = refl
-  row_of_before (Obj n) other = by_row (made_row n) refl
+  -- how the rows lie in the turn, and before it
+  abbrev pub turn_lies : Thing → Lying
+  turn_lies x = thing_lies turn_row (turn_block made heap foreign) x
+
+  abbrev pub before_lies : Thing → Lying
+  before_lies x = thing_lies (row_known heap foreign) (block_known heap foreign) x
+
+  turn_block_is : (n : ObjName) (o : Option Row) → made_row n ≡ o → turn_block made heap foreign n ≡ (if is_some o then None else block_known heap foreign n)
+  turn_block_is n o e = ap (λ r. if is_some r then None else block_known heap foreign n) e
+
+  -- the row of what was not made lies as before
+  lies_as_before : (x : Thing) → ((i : ℕ) → i < length made → x ≢ made_thing heap i) → turn_lies x ≡ before_lies x
+  lies_as_before (Actor a) other = refl
+  lies_as_before (Obj n) other = by_row (made_row n) refl
     where
-      by_row : (o : Option Row) → made_row n ≡ o → turn_row n ≡ row_known heap foreign n
-      by_row None e = turn_row_is n None e
+      by_row : (o : Option Row) → made_row n ≡ o → turn_lies (Obj n) ≡ before_lies (Obj n)
+      by_row None e = λ j. record { row = turn_row_is n None e j; block = turn_block_is n None e j }
       by_row (Some row) e = let it = of_made n row (n.owner == heap.owner) refl (nat_le heap.next n.serial) refl e in absurd (other it.0 it.1 it.2)
 
-  -- what was made has its own
-  pub row_of_made : (x : Thing) (i : ℕ) → i < length made → x ≡ made_thing heap i → thing_row turn_row x ≡ Some (get_or made i [])
-  row_of_made x i l e = ap (thing_row turn_row) e ∙ turn_row_is name (Some (get_or made i [])) (is (heap.owner == heap.owner) (eq-eqb heap.owner heap.owner refl) (nat_le heap.next (heap.next + i)) from)
+  -- the row of what was made is its own, and at hand
+  pub made_lies : (x : Thing) (i : ℕ) → i < length made → x ≡ made_thing heap i → turn_lies x ≡ record { row = Some (get_or made i []); block = None }
+  made_lies x i l e = ap turn_lies e ∙ (λ j. record { row = turn_row_is name (Some (get_or made i [])) found j; block = turn_block_is name (Some (get_or made i [])) found j })
     where
       name : ObjName
       name = record { owner = heap.owner; serial = heap.next + i }
@@ -227,6 +237,9 @@ module _ (heap : Heap) (foreign : Table) (made : List Row) (come : ComeLater hea
       is : (mine : Bool) → mine ≡ true → (late : Bool) → late ≡ true → cond (mine && late) (slice_get made (heap.next + i - heap.next)) None ≡ Some (get_or made i [])
       is mine e late f = (λ j. cond (e j && f j) (slice_get made (back j)) None) ∙ slice_get-get_or made i [] l
 
+      found : made_row name ≡ Some (get_or made i [])
+      found = is (heap.owner == heap.owner) (eq-eqb heap.owner heap.owner refl) (nat_le heap.next (heap.next + i)) from
+
   -- what has another place than those that were made was not made
-  pub not_made : (x : Thing) (p : ℕ) → turn_place x ≡ Some p → ((i : ℕ) → i < length made → p ≢ length lower + i) → thing_row turn_row x ≡ thing_row (row_known heap foreign) x
-  not_made x p e other = row_of_before x (λ i l same. let both : Some p ≡ Some (length lower + i) = sym e ∙ ap turn_place same ∙ turn_new i l in other i l (let it : p ≡ length lower + i = cc in it))
+  pub not_made : (x : Thing) (p : ℕ) → turn_place x ≡ Some p → ((i : ℕ) → i < length made → p ≢ length lower + i) → turn_lies x ≡ before_lies x
+  not_made x p e other = lies_as_before x (λ i l same. let both : Some p ≡ Some (length lower + i) = sym e ∙ ap turn_place same ∙ turn_new i l in other i l (let it : p ≡ length lower + i = cc in it))

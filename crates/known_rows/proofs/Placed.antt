@@ -17,12 +17,13 @@ use Rattle.orca_names.specs.declared.names.Thing.{Thing}
 use Rattle.orca_names.specs.declared.names.Thing.TheVariants.{Actor, Obj}
 use Rattle.orca_names.proofs.ThingOrder.{is_eq_true, is_ne_false, is_same, thing_total}
 use Rattle.letter_kinds.specs.Holdings.{Row, entry_row}
-use Rattle.object_heap.specs.Heap.{Has, Heap, own_row}
+use Rattle.object_heap.specs.Heap.{Has, Heap, block_at, own_block, own_row}
 use Rattle.foreign_table.specs.Span.{IsSpan}
-use Rattle.foreign_table.specs.Table.{Table, known_row}
-use Rattle.reach_walk.specs.Reach.{thing_row}
+use Rattle.foreign_table.specs.Table.{Table, known_block, known_row}
+use Rattle.foreign_table.specs.Table as tables
+use Rattle.row_store.specs.Told.{Lying, thing_block, thing_lies, thing_row}
 use Rattle.known_rows.specs.InOrder.{place_there}
-use Rattle.known_rows.specs.Known.{row_known}
+use Rattle.known_rows.specs.Known.{block_known, row_known}
 use Rattle.known_rows.specs.PlaceLaws.{placed_in_order}
 use Rattle.known_rows.specs.Places.{HoldsOthersOnly, held_above, held_below, own_things, place_in, placed_things}
 
@@ -245,16 +246,20 @@ module _ (heap : Heap) (foreign : Table) (first end : ℕ) (span : IsSpan heap.o
 
   -- ---- rows by place
 
-  -- a held thing of another actor's has the row that came with it
-  held_rows : (x : Thing) → owner_of x ≢ heap.owner → thing_row (known_row foreign) x ≡ thing_row (row_known heap foreign) x
-  held_rows (Actor a) other = refl
-  held_rows (Obj n) other = ap (λ b. cond b (own_row heap n) (known_row foreign n)) (sym (ne_eqb n.owner heap.owner other))
+  -- the row that came with a held thing of another actor's lies as it is known
+  held_lies : (x : Thing) → owner_of x ≢ heap.owner → thing_lies (known_row foreign) (known_block foreign) x ≡ thing_lies (row_known heap foreign) (block_known heap foreign) x
+  held_lies (Actor a) other = refl
+  held_lies (Obj n) other =
+      ap (λ b. the_lying (cond b (own_row heap n) (known_row foreign n)) (cond b (own_block heap n) (known_block foreign n))) (sym (ne_eqb n.owner heap.owner other))
+    where
+      the_lying : Option Row → Option ℕ → Lying
+      the_lying row block = record { row = row; block = block }
 
-  pub rowed_below : (j : ℕ) (x : Thing) → slice_get keys j ≡ Some x → j < first → thing_row (known_row foreign) x ≡ thing_row (row_known heap foreign) x
-  rowed_below j x e l = held_rows x (λ same. let low = span.below j x l in let at = ap owner_of (get_or_from_slice_get keys j x x e) in omega arith)
+  pub lies_below : (j : ℕ) (x : Thing) → slice_get keys j ≡ Some x → j < first → thing_lies (known_row foreign) (known_block foreign) x ≡ thing_lies (row_known heap foreign) (block_known heap foreign) x
+  lies_below j x e l = held_lies x (λ same. let low = span.below j x l in let at = ap owner_of (get_or_from_slice_get keys j x x e) in omega arith)
 
-  pub rowed_above : (j : ℕ) (x : Thing) → slice_get keys j ≡ Some x → end ≤ j → thing_row (known_row foreign) x ≡ thing_row (row_known heap foreign) x
-  rowed_above j x e l = held_rows x (λ same. let high = span.above j x l (slice_get_within keys j x e) in let at = ap owner_of (get_or_from_slice_get keys j x x e) in omega arith)
+  pub lies_above : (j : ℕ) (x : Thing) → slice_get keys j ≡ Some x → end ≤ j → thing_lies (known_row foreign) (known_block foreign) x ≡ thing_lies (row_known heap foreign) (block_known heap foreign) x
+  lies_above j x e l = held_lies x (λ same. let high = span.above j x l (slice_get_within keys j x e) in let at = ap owner_of (get_or_from_slice_get keys j x x e) in omega arith)
 
 -- the row at the place of an own object
 pub rowed_own : (heap : Heap) (foreign : Table) (n : ObjName) (i : ℕ) (row : Row) (count : ℕ) → n.owner ≡ heap.owner
@@ -263,8 +268,17 @@ rowed_own heap foreign n i row count owner e =
     sym (ap (λ b. cond b (cond b (option_map (λ x. x.0) (m.get heap.rows n.serial)) None) (known_row foreign n)) (eq-eqb n.owner heap.owner owner)
     ∙ ap (option_map (λ x. x.0)) (value_at_place nat_cmp_total heap.rows i (n.serial, (row, count)) e))
 
+-- and its block
+pub blocked_own : (heap : Heap) (foreign : Table) (n : ObjName) → n.owner ≡ heap.owner → block_at heap.blocks n.serial ≡ block_known heap foreign n
+blocked_own heap foreign n owner = sym (ap (λ b. cond b (cond b (block_at heap.blocks n.serial) None) (known_block foreign n)) (eq-eqb n.owner heap.owner owner))
+
 -- the row of an entry
 pub rowed_entry : (foreign : Table) (x : Thing) (j count : ℕ) (row : Option Row) → slice_get (m.entries foreign.entries) j ≡ Some (x, (count, row))
     → thing_row (λ _. row) x ≡ thing_row (known_row foreign) x
 rowed_entry foreign (Actor a) j count row e = refl
 rowed_entry foreign (Obj n) j count row e = sym (ap entry_row (value_at_place thing_total foreign.entries j (Obj n, (count, row)) e))
+
+-- and its block
+pub blocked_entry : (foreign : Table) (x : Thing) → thing_block (λ _. tables.block_at foreign.blocks x) x ≡ thing_block (known_block foreign) x
+blocked_entry foreign (Actor a) = refl
+blocked_entry foreign (Obj n) = refl

@@ -1,5 +1,5 @@
 -- The own objects stand together among the places.
-use Rattle.std.proofs.Common.{◌≡◌, ℕ, ◌+◌, ◌<◌, ◌^◌, true, List, Option, None, Some, length, slice_get, refl, sym, ap, subst, ◌∙◌, arith}
+use Rattle.std.proofs.Common.{◌≡◌, ℕ, ◌+◌, ◌<◌, ◌^◌, true, List, Some, length, slice_get, refl, sym, ap, subst, ◌∙◌, arith}
 use Rattle.std.specs.Prelude.{option_map}
 use Rattle.std.specs.FinMap as m
 use Rattle.std.proofs.lemmas.List.{length-map}
@@ -8,38 +8,25 @@ use Rattle.orca_names.specs.Names.{owner_of}
 use Rattle.orca_names.specs.declared.names.ObjName.{ObjName}
 use Rattle.orca_names.specs.declared.names.Thing.{Thing}
 use Rattle.orca_names.specs.declared.names.Thing.TheVariants.{Obj}
-use Rattle.row_store.specs.Told.{Lying, lie_as, lies_as, thing_block, thing_lies, thing_row}
-use Rattle.row_store.specs.declared.told.Told.{Told}
-use Rattle.row_store.specs.declared.told.Told.TheVariants.{Here}
+use Rattle.row_store.specs.Told.{Lying, lie_as, lies_as, thing_lies}
+use Rattle.row_store.proofs.Telling.{block_told, row_told}
 use Rattle.letter_kinds.specs.Holdings.{Row}
 use Rattle.object_heap.specs.Entry.{FollowOn, first_of}
-use Rattle.object_heap.specs.Heap.{Heap, own_objects}
+use Rattle.object_heap.specs.Heap.{Heap, block_at, own_object, own_objects}
 use Rattle.foreign_table.specs.Span.{IsSpan}
 use Rattle.foreign_table.specs.Table.{Table}
 use Rattle.reach_walk.specs.Dense.{StandTogether}
 use Rattle.reach_walk.specs.declared.dense.Dense.{Dense}
 use Rattle.reach_walk.proofs.Together.{from_map, stand_alike}
-use Rattle.known_rows.specs.InTurn.{ComeLater}
-use Rattle.known_rows.specs.Known.{row_known}
+use Rattle.known_rows.specs.InTurn.{ComeLater, turn_block}
+use Rattle.known_rows.specs.Known.{block_known, row_known}
 use Rattle.known_rows.specs.Places.{place_in}
 use Rattle.known_rows.proofs.Later.{lower, not_made, turn_kept, turn_place, turn_row}
-use Rattle.known_rows.proofs.Placed.{place_own, rowed_own}
-
--- an own object with its row at hand
-abbrev object_of : ℕ → ℕ × (Row × ℕ) → Thing × Told
-object_of owner e = (Obj (record { owner = owner; serial = e.0 }), Here e.1.0)
-
--- no row lies in a block
-abbrev nowhere : ObjName → Option ℕ
-nowhere n = None
-
-lie_alike : (rows its : ObjName → Option Row) (x : Thing) → thing_row rows x ≡ thing_row its x
-    → thing_lies rows nowhere x ≡ thing_lies its nowhere x
-lie_alike rows its x same = λ j. record { row = same j; block = thing_block nowhere x }
+use Rattle.known_rows.proofs.Placed.{blocked_own, place_own, rowed_own}
 
 -- how many own objects there are
 pub objects_count : (heap : Heap) → length (own_objects heap) ≡ m.len heap.rows
-objects_count heap = length-map (m.entries heap.rows) (object_of heap.owner) ∙ sym (m.len-entries heap.rows)
+objects_count heap = length-map (m.entries heap.rows) (own_object heap.owner heap.blocks) ∙ sym (m.len-entries heap.rows)
 
 module _ (heap : Heap) (foreign : Table) (first end : ℕ) (span : IsSpan heap.owner (m.keys foreign.entries) first end) where
   -- an own object, by its place among these
@@ -47,10 +34,10 @@ module _ (heap : Heap) (foreign : Table) (first end : ℕ) (span : IsSpan heap.o
   named serial = record { owner = heap.owner; serial = serial }
 
   abbrev lies : Thing → Lying
-  lies x = thing_lies (row_known heap foreign) nowhere x
+  lies x = thing_lies (row_known heap foreign) (block_known heap foreign) x
 
   abbrev told : Heap → ℕ × (Row × ℕ) → Thing × Lying
-  told its e = lies_as (row_known heap foreign) (object_of its.owner e)
+  told its e = lies_as (row_known heap foreign) (own_object its.owner its.blocks e)
 
   -- each has its place, and its row lies as it is told
   abbrev Stands : ℕ → Thing × Lying → Type 0
@@ -59,19 +46,21 @@ module _ (heap : Heap) (foreign : Table) (first end : ℕ) (span : IsSpan heap.o
   own_lies : (i : ℕ) (e : ℕ × (Row × ℕ)) → slice_get (m.entries heap.rows) i ≡ Some e → (told heap e).1 ≡ lies (Obj (named e.0))
   own_lies i e there =
       let n = named e.0 in
-      λ j. record { row = rowed_own heap foreign n i e.1.0 e.1.1 refl there j; block = None }
+      let block = block_at heap.blocks e.0 in
+      let row = rowed_own heap foreign n i e.1.0 e.1.1 refl there in
+      λ j. record { row = (row_told (row_known heap foreign) n e.1.0 block (λ _. sym row) ∙ row) j; block = (block_told e.1.0 block ∙ blocked_own heap foreign n refl) j }
 
   -- its serial is that at its place
   own_stands : (i : ℕ) (e : Thing × Lying) → slice_get (lie_as (row_known heap foreign) (own_objects heap)) i ≡ Some e → (serial : ℕ) × (slice_get (m.keys heap.rows) i ≡ Some serial) × (Obj (named serial) ≡ e.0) × Stands i e
   own_stands i e there =
       let kept = from_map (lies_as (row_known heap foreign)) (own_objects heap) i e there in
-      let its = from_map (object_of heap.owner) (m.entries heap.rows) i kept.0 kept.1 in
+      let its = from_map (own_object heap.owner heap.blocks) (m.entries heap.rows) i kept.0 kept.1 in
       let same : told heap its.0 ≡ e = ap (lies_as (row_known heap foreign)) its.2 ∙ kept.2 in
       let key : slice_get (m.keys heap.rows) i ≡ Some its.0.0 = slice_get-map (λ x. x.0) (m.entries heap.rows) i ∙ ap (option_map (λ x. x.0)) its.1 in
       (its.0.0, key, ap (λ x. x.0) same, subst (Stands i) same (place_own heap foreign first end span i its.0.0 key, own_lies i its.0 its.1))
 
   pub own_together : (dense : Dense) → dense.base ≡ first + 1 → dense.first ≡ first_of (m.keys heap.rows) → (dense.whole ≡ true → FollowOn (m.keys heap.rows)) → dense.owner ≡ heap.owner → dense.items.now ≡ own_objects heap → first + 1 + m.len heap.rows < 2 ^ 64
-      → StandTogether (place_in heap foreign) (row_known heap foreign) nowhere dense
+      → StandTogether (place_in heap foreign) (row_known heap foreign) (block_known heap foreign) dense
   own_together dense base first_is follow owner items fits =
       let rows = row_known heap foreign in
       let its : (i : ℕ) (e : Thing × Lying) → slice_get (lie_as rows dense.items.now) i ≡ Some e → slice_get (lie_as rows (own_objects heap)) i ≡ Some e = λ i e there. ap (λ es. slice_get (lie_as rows es) i) (sym items) ∙ there in
@@ -88,10 +77,10 @@ module _ (heap : Heap) (foreign : Table) (first end : ℕ) (span : IsSpan heap.o
       }
 
 -- in a turn they stand as before
-pub turn_together : (heap : Heap) (foreign : Table) (made : List Row) (come : ComeLater heap made) (dense : Dense) → StandTogether (place_in heap foreign) (row_known heap foreign) nowhere dense → dense.base + length dense.items.now ≡ length (lower heap foreign made come)
-    → StandTogether (turn_place heap foreign made come) (turn_row heap foreign made come) nowhere dense
+pub turn_together : (heap : Heap) (foreign : Table) (made : List Row) (come : ComeLater heap made) (dense : Dense) → StandTogether (place_in heap foreign) (row_known heap foreign) (block_known heap foreign) dense → dense.base + length dense.items.now ≡ length (lower heap foreign made come)
+    → StandTogether (turn_place heap foreign made come) (turn_row heap foreign made come) (turn_block made heap foreign) dense
 turn_together heap foreign made come dense together end =
-    stand_alike (place_in heap foreign) (turn_place heap foreign made come) (row_known heap foreign) (turn_row heap foreign made come) nowhere nowhere dense together
+    stand_alike (place_in heap foreign) (turn_place heap foreign made come) (row_known heap foreign) (turn_row heap foreign made come) (block_known heap foreign) (turn_block made heap foreign) dense together
     (λ i x inside mine here.
     let kept = turn_kept heap foreign made come x (dense.base + i) here (omega (arith, inside, end)) in
-    (kept, lie_alike (turn_row heap foreign made come) (row_known heap foreign) x (not_made heap foreign made come x (dense.base + i) kept (λ j l same. omega (arith, inside, end, same)))))
+    (kept, not_made heap foreign made come x (dense.base + i) kept (λ j l same. omega (arith, inside, end, same))))

@@ -10,14 +10,18 @@ use Rattle.std.proofs.lemmas.List.Elements.{Contains-append_left, Contains-appen
 use Rattle.std.proofs.lemmas.Map.Views.{Contains-from_any}
 use Rattle.orca_names.specs.declared.names.ObjName.{ObjName}
 use Rattle.letter_kinds.specs.Holdings.{Row, OwnRows, row_of}
-use Rattle.object_heap.specs.Heap.{Heap, own_row}
-use Rattle.foreign_table.specs.Table.{Table, known_row}
+use Rattle.object_heap.specs.Heap.{Heap, own_block, own_row}
+use Rattle.foreign_table.specs.Table.{Table, known_block, known_row}
 use Rattle.known_rows.specs.Holdings.{holdings_of}
 use Rattle.foreign_table.specs.Named.{objects, known_within}
 
 -- its own, or one that came with what it holds
 abbrev pub row_known : Heap → Table → ObjName → Option Row
 row_known heap foreign n = if n.owner == heap.owner then own_row heap n else known_row foreign n
+
+-- the block in which that row lies, if it does
+abbrev pub block_known : Heap → Table → ObjName → Option ℕ
+block_known heap foreign n = if n.owner == heap.owner then own_block heap n else known_block foreign n
 
 -- the objects of which it may have a row
 abbrev pub names_known : Heap → Table → List ObjName

@@ -3,8 +3,8 @@
 ghost use Rattle.std.specs.Prelude.{◌≡◌, ◌≢◌, ◌↔◌, ◌∷◌, ◌++◌, ◌+◌, ◌-◌, ◌^◌, ◌<◌, ℕ, Option, Some, None, length, slice_get, IsTrue};
 ghost use Rattle.std.specs.FinMap as m;
 ghost use Rattle.foreign_table.specs.Span.{IsSpan};
-ghost use Rattle.foreign_table.specs.Table.{known_row};
-ghost use Rattle.known_rows.specs.Known.{row_known};
+ghost use Rattle.foreign_table.specs.Table.{known_block, known_row};
+ghost use Rattle.known_rows.specs.Known.{block_known, row_known};
 ghost use Rattle.known_rows.specs.Places.{HoldsOthersOnly, held_below, own_things, place_in, placed_things};
 ghost use Rattle.orca_names.specs.declared.names.ObjName.{ObjName as object_name};
 ghost use Rattle.reach_walk.specs.Dense.{StandTogether};
@@ -152,10 +152,10 @@ fn held_entry(foreign: &ForeignTable, j: usize) -> (Thing, Lent<'_>)
     requires { j < m.len foreign.now.entries }
     ensures thing { slice_get (m.keys foreign.now.entries) j ≡ Some result.0 }
     ensures row { IsLent (thing_row (known_row foreign.now) result.0)
-        (thing_block (λ _. None) result.0) result.1 }
+        (thing_block (known_block foreign.now) result.0) result.1 }
 {
     let (thing, _, row) = foreign.at(j);
-    of_object(thing, Lent::at_hand(row))
+    of_object(thing, row)
 }
 
 impl KnownPlaces<'_> {
@@ -165,7 +165,8 @@ impl KnownPlaces<'_> {
         requires { at < length (placed_things self.now.rows.heap.now self.now.rows.foreign.now) }
         ensures thing { place_in self.now.rows.heap.now self.now.rows.foreign.now result.0 ≡ Some at }
         ensures row { let rows = row_known self.now.rows.heap.now self.now.rows.foreign.now in
-            IsLent (thing_row rows result.0) (thing_block (λ _. None) result.0) result.1 }
+            let blocks = block_known self.now.rows.heap.now self.now.rows.foreign.now in
+            IsLent (thing_row rows result.0) (thing_block blocks result.0) result.1 }
     {
         let foreign = self.rows.foreign;
         if at < self.first {
@@ -177,19 +178,18 @@ impl KnownPlaces<'_> {
         }
         if at < self.above {
             let (n, row, _) = heap.at(at - self.first - 1);
-            return (Thing::Obj(n), Lent::Here(row.as_slice()));
+            return (Thing::Obj(n), row);
         }
         held_entry(foreign, at - self.above + self.end)
     }
 }
 
 impl BlockRows for KnownPlaces<'_> {
-    ghost use Rattle.std.specs.Prelude.{None};
-    ghost use Rattle.known_rows.specs.Known.{row_known, names_known, row_known-within};
+    ghost use Rattle.known_rows.specs.Known.{block_known, row_known, names_known, row_known-within};
 
     ghost rows = { λ s. row_known s.rows.heap.now s.rows.foreign.now };
 
-    ghost blocks = { λ _ _. None };
+    ghost blocks = { λ s. block_known s.rows.heap.now s.rows.foreign.now };
 
     ghost all = { λ s. names_known s.rows.heap.now s.rows.foreign.now };
 
@@ -210,7 +210,8 @@ impl PlacedRows for KnownPlaces<'_> {
 
     fn dense(&self) -> Dense<'_>
         ensures together { let heap = self.now.rows.heap.now in let foreign = self.now.rows.foreign.now in
-            StandTogether (place_in heap foreign) (row_known heap foreign) (λ _. None) result }
+            StandTogether (place_in heap foreign) (row_known heap foreign) (block_known heap foreign)
+            result }
         ensures owner { result.owner ≡ self.now.rows.heap.now.owner }
         ensures end { let heap = self.now.rows.heap.now in
             let below = held_below heap self.now.rows.foreign.now in

@@ -1,6 +1,6 @@
 // Places of what an actor has in a turn.
 
-ghost use Rattle.std.specs.Prelude.{◌≡◌, ◌≢◌, ◌++◌, ◌∷◌, ◌+◌, ◌^◌, ◌<◌, ℕ, Some, None, length, IfSome, IsTrue, MatchOption};
+ghost use Rattle.std.specs.Prelude.{◌≡◌, ◌≢◌, ◌++◌, ◌∷◌, ◌+◌, ◌^◌, ◌<◌, [], ℕ, Some, None, length, IfSome, IsTrue, MatchOption};
 ghost use Rattle.known_rows.specs.Places.{held_below, own_things, placed_things};
 ghost use Rattle.orca_names.specs.declared.names.Thing.TheVariants.{Actor as actor_thing};
 ghost use Rattle.known_rows.specs.InTurn.{ComeLater, made_thing};
@@ -159,13 +159,12 @@ impl<'a> TurnPlaces<'a> {
 impl BlockRows for TurnPlaces<'_> {
     ghost use Rattle.letter_kinds.specs.Holdings.{known_objects, row_of, with_made};
     ghost use Rattle.known_rows.specs.Holdings.{holdings_of};
-    ghost use Rattle.std.specs.Prelude.{None};
-    ghost use Rattle.known_rows.specs.InTurn.{row_is_known};
+    ghost use Rattle.known_rows.specs.InTurn.{row_is_known, turn_block};
 
     ghost rows = { λ s. row_of s.known.rows.heap.now.owner
         (with_made s.made.now (holdings_of 0 s.known.rows.heap.now s.known.rows.foreign.now)) };
 
-    ghost blocks = { λ _ _. None };
+    ghost blocks = { λ s. turn_block s.made.now s.known.rows.heap.now s.known.rows.foreign.now };
 
     ghost all = { λ s. known_objects s.known.rows.heap.now.owner
         (with_made s.made.now (holdings_of 0 s.known.rows.heap.now s.known.rows.foreign.now)) };
@@ -204,10 +203,10 @@ impl Places for TurnPlaces<'_> {
     ghost use Rattle.known_rows.specs.Places.{place_in, placed_things};
     ghost use Rattle.known_rows.specs.PlaceLaws.{places_below, places_in_order};
 
-    ghost place = { λ s. place_in (with_new s.made.now s.known.rows.heap.now)
+    ghost place = { λ s. place_in (with_new s.made.now [] s.known.rows.heap.now)
         s.known.rows.foreign.now };
 
-    ghost count = { λ s. length (placed_things (with_new s.made.now s.known.rows.heap.now)
+    ghost count = { λ s. length (placed_things (with_new s.made.now [] s.known.rows.heap.now)
         s.known.rows.foreign.now) };
 
     fn places(&self) -> usize {
@@ -226,9 +225,9 @@ impl Places for TurnPlaces<'_> {
         }
     }
 
-    ghost below = { λ s x p e. places_below (with_new s.made.now s.known.rows.heap.now)
+    ghost below = { λ s x p e. places_below (with_new s.made.now [] s.known.rows.heap.now)
         s.known.rows.foreign.now x p e };
 
-    ghost in_order = { λ s x y p q e f. places_in_order (with_new s.made.now s.known.rows.heap.now)
+    ghost in_order = { λ s x y p q e f. places_in_order (with_new s.made.now [] s.known.rows.heap.now)
         s.known.rows.foreign.now x y p q e f };
 }

@@ -1,13 +1,10 @@
 // Letters between actors.
 
+use crate::load::Load;
 use crate::sent::SentArgs;
 use behaviour_code::Name;
 use orca_names::Thing;
 use plain_list::Listed;
-use row_store::Told;
-
-/// Things, in the order of things, each once; an object may come with its row (Orca, OOPSLA 2017).
-pub type Load = Listed<(Thing, Told)>;
 
 /// Things, each with an amount by which its count rises or falls.
 pub type Amounts = Listed<(Thing, u64)>;

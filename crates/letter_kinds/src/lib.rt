@@ -5,6 +5,7 @@
 
 mod laws;
 mod letter;
+mod load;
 mod note;
 mod plan;
 mod sent;
@@ -13,7 +14,8 @@ pub use laws::{
     a_scan_leaves_no_news, acked_by_all_is_by_each, one_largest, rounds_give_the_largest,
     union_is_closed,
 };
-pub use letter::{Amounts, Letter, Load};
+pub use letter::{Amounts, Letter};
+pub use load::Load;
 pub use note::{Note, Report};
 pub use plan::SweepPlan;
 pub use sent::SentArgs;

@@ -8,6 +8,8 @@ ghost use Rattle.letter_kinds.specs.Holdings.{Row};
 ghost use Rattle.known_rows.specs.Places.{HoldsOthersOnly, placed_things};
 ghost use Rattle.local_sweep.specs.Marked.{is_marked, is_reached};
 ghost use Rattle.local_sweep.specs.Plan.{back_of, free_of, is_freed, object_named, plan_of};
+ghost use Rattle.known_rows.specs.Known.{block_known, row_known};
+ghost use Rattle.row_store.specs.Standing.{Stand};
 ghost use Rattle.row_store.specs.Words.{SameWords};
 
 use crate::amounts::push_amount;
@@ -150,7 +152,9 @@ pub fn plan<W: RowWords>(
     foreign: &ForeignTable,
     words: &mut W,
 ) -> Result<SweepPlan, NoMemory>
-    requires { HoldsOthersOnly heap.now foreign.now }
+    requires others { HoldsOthersOnly heap.now foreign.now }
+    requires stand { Stand (row_known heap.now foreign.now) (block_known heap.now foreign.now)
+        (W.known words.old) }
     ensures plan { let marked = is_reached fields.now.values heap.now foreign.now in
         IfOk result (λ plan. plan ≡ plan_of marked heap.now foreign.now) }
     ensures words { SameWords W.known W.places W.beside words.old words.new }

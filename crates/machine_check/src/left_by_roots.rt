@@ -5,7 +5,8 @@ use actor_cell::Cell;
 use foreign_table::ForeignTable;
 use object_heap::ObjectHeap;
 use orca_core::Orca;
-use orca_names::{ActorName, NoMemory, ObjName, Row, Thing, Value};
+use orca_names::{ActorName, NoMemory, ObjName, Thing, Value};
+use row_store::Lent;
 use std::alloc::Global;
 use std::collections::BTreeSet;
 
@@ -23,10 +24,13 @@ fn add_values(edges: &mut Edges, from: &Thing, values: &[Value]) -> Result<(), N
 }
 
 /// An object leads to its owner, and to what its row names.
-fn add_row(edges: &mut Edges, object: ObjName, row: &Row) -> Result<(), NoMemory> {
+fn add_row(edges: &mut Edges, object: ObjName, row: Lent<'_>) -> Result<(), NoMemory> {
     let from = Thing::Obj(object);
     edges.push((from, Thing::Actor(from.owner())))?;
-    add_values(edges, &from, row.as_slice())
+    match row {
+        Lent::Here(values) => add_values(edges, &from, values),
+        Lent::Nothing | Lent::In(_) => Ok(()),
+    }
 }
 
 /// The edges of an actor's own objects.

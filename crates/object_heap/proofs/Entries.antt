@@ -9,7 +9,7 @@ use Rattle.std.specs.FinMap.{nat_cmp-IsAntisymmetric, get-insert, get-remove}
 use Rattle.std.specs.FinMap.Entries.{is_sorted}
 use Rattle.std.proofs.lemmas.Bool.{cases_lt, false≢true, eq-eqb, eqb-true, not-false}
 use Rattle.std.proofs.lemmas.Bool.Decides.{nat_tests}
-use Rattle.std.proofs.lemmas.List.{length-map}
+use Rattle.std.proofs.lemmas.List.{get_or-map, length-map}
 use Rattle.std.proofs.lemmas.List.Edits.{insert_end}
 use Rattle.letter_kinds.specs.Counting.{with_row_count}
 use Rattle.letter_kinds.specs.Holdings.{OwnRows, Row, row_count, add_rows}
@@ -49,6 +49,16 @@ module _ (next : ℕ) (es : List Own) (h : AreOwn next es) where
     | inr l ↦ absurd (false≢true (ap is_some (sym (h.below k l)) ∙ is_there k i p))
   ]
 
+  below_key : (j : ℕ) (d : ℕ × (Row × ℕ)) → j < length (map pair_of es) → (get_or (map pair_of es) j d).0 < next
+  below_key j d l = elim (cases_lt (get_or (map pair_of es) j d).0 next) as (λ _. (get_or (map pair_of es) j d).0 < next) [
+    | inl m ↦ m
+    | inr m ↦ absurd (false≢true (ap is_some (sym (h.below _ m) ∙ get_at nat_cmp_total nat_cmp-IsAntisymmetric (map pair_of es) h.sorted _ j (place_itself nat_cmp_total nat_cmp-IsAntisymmetric (map pair_of es) h.sorted j l d) d)))
+  ]
+
+  -- each serial is below the next one
+  pub below_next : (j : ℕ) (d : Own) → j < length es → (get_or es j d).serial < next
+  below_next j d l = subst (λ e. e.0 < next) (get_or-map pair_of es j d (pair_of d) l) (below_key j (pair_of d) (omega (arith, length-map es pair_of)))
+
 after_insert : (rows : OwnRows) (k q next : ℕ) (v : Row × ℕ) → k < next → next ≤ q → m.get rows q ≡ None → m.get (m.insert rows k v) q ≡ None
 after_insert rows k q next v l le e = get-insert nat_cmp_total rows k v q ∙ ap (λ b. cond b (Some v) (m.get rows q)) apart ∙ e
   where
@@ -76,16 +86,10 @@ module _ (next : ℕ) (es : List Own) (k i : ℕ) (e : Own) (h : AreOwn next es)
 
 -- an object more
 module _ (next : ℕ) (es : List Own) (own : Own) (h : AreOwn next es) (new : own.serial ≡ next) where
-  below_next : (j : ℕ) (d : ℕ × (Row × ℕ)) → j < length (map pair_of es) → (get_or (map pair_of es) j d).0 < next
-  below_next j d l = elim (cases_lt (get_or (map pair_of es) j d).0 next) as (λ _. (get_or (map pair_of es) j d).0 < next) [
-    | inl m ↦ m
-    | inr m ↦ absurd (false≢true (ap is_some (sym (h.below _ m) ∙ get_at nat_cmp_total nat_cmp-IsAntisymmetric (map pair_of es) h.sorted _ j (place_itself nat_cmp_total nat_cmp-IsAntisymmetric (map pair_of es) h.sorted j l d) d)))
-  ]
-
-  gap : IsGap nat_cmp (map pair_of es) next (length es)
+  pub gap : IsGap nat_cmp (map pair_of es) next (length es)
   gap = record {
     in_range = omega (arith, length-map es pair_of);
-    before = λ j d l. let b = below_next j d (omega (arith, length-map es pair_of)) in grind (arith, nat_tests);
+    before = λ j d l. let b = below_key next es h j d (omega (arith, length-map es pair_of)) in grind (arith, nat_tests);
     after = λ j d l n. absurd (omega (arith, length-map es pair_of));
   }
 

@@ -2,4 +2,8 @@ pub mod Entries
 pub mod Follow
 pub mod Gone
 pub mod Kept
+pub mod Lending
+pub mod Making
+pub mod Placed
+pub mod Recalled
 pub mod Same

@@ -31,4 +31,8 @@ FiltersKept owner gone all keys objects kept i =
 abbrev pub freed : List ObjName → Heap → Heap
 freed gone h =
     let rows = m.retain_keys h.rows (stays gone) in
-    record h { spare = h.spare + (m.len h.rows - m.len rows); rows = rows }
+    record h {
+      spare = h.spare + (m.len h.rows - m.len rows);
+      rows = rows;
+      blocks = m.retain_keys h.blocks (stays gone);
+    }

@@ -1,20 +1,22 @@
 // The heap.
 
-ghost use Rattle.std.specs.Prelude.{◌≡◌, ◌↔◌, ◌+◌, ◌-◌, ◌^◌, ◌<◌, ◌≤◌, Some, [], ◌∷◌, length, map, slice_get, IfOk, IfSome, IsOk, IsSome, IsTrue, OnOk, option_map};
-ghost use Rattle.std.specs.Option.{option_copied};
+ghost use Rattle.std.specs.Prelude.{◌≡◌, ◌↔◌, ◌+◌, ◌-◌, ◌^◌, ◌<◌, ◌≤◌, None, Some, [], ◌∷◌, ◌++◌, ℕ, Option, slice_get, vec_capacity, vec_len, IfOk, IfSome, IsOk, IsSome, IsTrue, OnOk};
 ghost use Rattle.std.specs.FinMap as m;
-ghost use Rattle.letter_kinds.specs.Holdings.{row_count};
+ghost use Rattle.letter_kinds.specs.Holdings.{Row as any_row, row_count};
 ghost use Rattle.object_heap.specs.Entry.{FollowOn, first_of};
 ghost use Rattle.object_heap.specs.Free.{SerialsRise, freed};
-ghost use Rattle.object_heap.specs.Heap.{Has, IsSame, counted, own_objects, own_row, with_new, without};
+ghost use Rattle.object_heap.specs.Heap.{AllHere, Has, IsSame, block_at, counted, own_block, own_objects, own_row, with_new, without};
 ghost use Rattle.ref_weights.specs.Limit.{count_limit};
-ghost use Rattle.row_store.specs.Told.{row_here};
+ghost use Rattle.row_store.specs.Lent.{IsLent};
+ghost use Rattle.row_store.specs.Memory.{remembered};
+ghost use Rattle.row_store.specs.Standing.{AreRemembered};
+ghost use Rattle.row_store.specs.Told.{told_of};
 
 use crate::free::keep_others;
 use crate::search::{Key, first_serial, follow_on, place_of, place_there};
 use orca_names::{ActorName, NoMemory, ObjName, Row, Serial, Thing};
 use ref_weights::OwnCount;
-use row_store::Told;
+use row_store::{Lent, Remembered, Told};
 use std::alloc::Global;
 use std::marker::Model;
 
@@ -28,12 +30,15 @@ pub struct ObjectHeap {
     // serials.
     keys: Vec<Key>,
     objects: Vec<(Thing, Told)>,
+    // The rows that lie in blocks.
+    memory: Remembered,
 }
 
 impl Model for ObjectHeap {
     ghost use Rattle.std.specs.Prelude.{◌-◌, min, vec_len, vec_capacity};
     ghost use Rattle.object_heap.specs.Entry.{joined};
-    ghost use Rattle.object_heap.specs.Heap.{Heap, AreStored, coded_heap, rows_in};
+    ghost use Rattle.object_heap.specs.Heap.{Heap, AreStored, blocks_in, coded_heap, rows_in};
+    ghost use Rattle.row_store.specs.Memory.{remembered};
 
     ghost Value = { Heap };
 
@@ -44,10 +49,11 @@ impl Model for ObjectHeap {
       next = s.next;
       spare = min (vec_capacity s.keys - vec_len s.keys)
           (vec_capacity s.objects - vec_len s.objects);
-      rows = rows_in (joined s.keys.items s.objects.items);
+      rows = rows_in (joined (remembered s.memory) s.keys.items s.objects.items);
+      blocks = blocks_in (joined (remembered s.memory) s.keys.items s.objects.items);
     } };
 
-    ghost invariant = { λ s. AreStored s.owner s.next s.keys.items s.objects.items };
+    ghost invariant = { λ s. AreStored s.owner s.next (remembered s.memory) s.keys.items s.objects.items };
 }
 
 fn same_keys(keys: &[Key], others: &[Key]) -> bool
@@ -62,28 +68,58 @@ fn same_objects(objects: &[(Thing, Told)], others: &[(Thing, Told)]) -> bool
     objects == others
 }
 
-// The row of an object, which is there.
+// What is told of a row, lent: a row is told.
 #[inline(always)]
-fn row_there(object: &(Thing, Told)) -> &Row
-    requires { IsSome (row_here object.now.1) }
-    ensures { row_here object.now.1 ≡ Some result.now }
+fn lend(told: &Told) -> Lent<'_>
+    requires { (its : any_row) × (block : Option ℕ) × (told.now ≡ told_of its block) }
+    ensures { (its : any_row) (block : Option ℕ) → told.now ≡ told_of its block
+        → IsLent (Some its) block result }
 {
-    match &object.1 {
-        Told::Here(row) => row,
-        Told::Nothing | Told::In(_) => unreachable!(),
+    match told {
+        Told::Nothing => unreachable!(),
+        Told::Here(row) => Lent::Here(row.as_slice()),
+        Told::In(block) => Lent::In(*block),
     }
+}
+
+// The name of the owner's object with this serial.
+#[inline(always)]
+fn name_of(owner: ActorName, serial: u64) -> ObjName
+    ensures { result ≡ record { owner = owner; serial = serial } }
+{
+    ObjName {
+        owner,
+        serial: Serial::of(serial),
+    }
+}
+
+// The key of a new object, with count 0.
+#[inline(always)]
+fn push_key(keys: &mut Vec<Key>, serial: u64)
+    requires { vec_len keys.old < vec_capacity keys.old }
+    ensures items { keys.new.items
+        ≡ keys.old.items ++ record { serial = serial; count = 0 } ∷ [] }
+    ensures len { vec_len keys.new ≡ vec_len keys.old + 1 }
+    ensures capacity { vec_capacity keys.new ≡ vec_capacity keys.old }
+{
+    keys.push_reserved(Key {
+        serial,
+        count: OwnCount::new(),
+    });
 }
 
 impl ObjectHeap {
     /// No object yet. It takes no memory.
     pub fn new(alloc: Global, owner: ActorName) -> ObjectHeap
-        ensures { result ≡ record { owner = owner; next = 0; spare = 0; rows = m.empty } }
+        ensures { result
+            ≡ record { owner = owner; next = 0; spare = 0; rows = m.empty; blocks = m.empty } }
     {
         ObjectHeap {
             owner,
             next: 0,
             keys: Vec::new(alloc),
             objects: Vec::new(alloc),
+            memory: Remembered::new(),
         }
     }
 
@@ -119,43 +155,60 @@ impl ObjectHeap {
         Ok(())
     }
 
-    /// A new object, with count 0. It takes no memory.
+    /// A new object with this row at hand, and count 0. It takes no memory.
     pub fn make(&mut self, row: Row) -> ObjName
         requires room { 0 < self.old.spare }
         requires fits { self.old.next + 1 < 2 ^ 64 }
         ensures name { result ≡ record { owner = self.old.owner; serial = self.old.next } }
-        ensures made { self.new ≡ with_new (row ∷ []) self.old }
+        ensures made { self.new ≡ with_new (row ∷ []) (None ∷ []) self.old }
     {
         let owner = self.owner;
         let serial = self.next;
-        self.keys.push_reserved(Key {
-            serial,
-            count: OwnCount::new(),
-        });
-        let name = ObjName {
-            owner,
-            serial: Serial::of(serial),
-        };
+        push_key(&mut self.keys, serial);
+        let name = name_of(owner, serial);
         self.objects
             .push_reserved((Thing::Obj(name), Told::Here(row)));
         self.next += 1;
-        ObjName {
-            owner,
-            serial: Serial::of(serial),
+        name_of(owner, serial)
+    }
+
+    /// A new object whose row lies in this block, and count 0. It takes no memory.
+    pub fn make_in(&mut self, block: u32, row: &Row) -> ObjName
+        requires room { 0 < self.old.spare }
+        requires fits { self.old.next + 1 < 2 ^ 64 }
+        ensures name { result ≡ record { owner = self.old.owner; serial = self.old.next } }
+        ensures made { self.new ≡ with_new (row.now ∷ []) (Some block ∷ []) self.old }
+    {
+        let owner = self.owner;
+        let serial = self.next;
+        push_key(&mut self.keys, serial);
+        let name = name_of(owner, serial);
+        self.objects
+            .push_reserved((Thing::Obj(name), Told::In(block)));
+        self.memory.know(name_of(owner, serial), row);
+        self.next += 1;
+        name_of(owner, serial)
+    }
+
+    /// The row of an object; nothing exactly where the object is not there.
+    pub fn row(&self, n: ObjName) -> Lent<'_>
+        ensures { IsLent (own_row self.now n) (own_block self.now n) result }
+    {
+        if n.owner != self.owner {
+            return Lent::Nothing;
+        }
+        match place_of(self.keys.as_slice(), n.serial) {
+            Ok(i) => lend(&self.objects[i].1),
+            Err(_) => Lent::Nothing,
         }
     }
 
-    /// The row of an object; `None` exactly where it is not there.
-    pub fn row(&self, n: ObjName) -> Option<&Row>
-        ensures { option_copied result ≡ own_row self.now n }
+    /// The rows that lie in blocks.
+    #[inline(always)]
+    pub fn memory(&self) -> &Remembered
+        ensures { AreRemembered (own_row self.now) (own_block self.now) (remembered result.now) }
     {
-        if n.owner != self.owner {
-            return None;
-        }
-        match place_of(self.keys.as_slice(), n.serial) {
-            Ok(i) => Some(row_there(&self.objects[i])),
-            Err(_) => None,
-        }
+        &self.memory
     }
 
     /// The place of an object in the order of serials; `None` exactly where it is not there.
@@ -260,11 +313,12 @@ impl ObjectHeap {
     }
 
     /// An object by its place in the order of serials: its name, its row and its count.
-    pub fn at(&self, i: usize) -> (ObjName, &Row, u64)
+    pub fn at(&self, i: usize) -> (ObjName, Lent<'_>, u64)
         requires { i < m.len self.now.rows }
         ensures owner { result.0.owner ≡ self.now.owner }
-        ensures entry { slice_get (m.entries self.now.rows) i
-            ≡ Some (result.0.serial, (result.1.now, result.2)) }
+        ensures entry { (its : any_row)
+            × (slice_get (m.entries self.now.rows) i ≡ Some (result.0.serial, (its, result.2)))
+            × IsLent (Some its) (block_at self.now.blocks result.0.serial) result.1 }
         ensures bound { result.2 < count_limit }
     {
         let key = &self.keys[i];
@@ -272,7 +326,7 @@ impl ObjectHeap {
             owner: self.owner,
             serial: Serial::of(key.serial),
         };
-        (name, row_there(&self.objects[i]), key.count.get())
+        (name, lend(&self.objects[i].1), key.count.get())
     }
 
     /// The same objects, of the same owner.
@@ -289,12 +343,16 @@ impl ObjectHeap {
             next: self.next,
             keys,
             objects,
+            memory: self.memory.again(),
         })
     }
 
-    /// Whether owner, next serial and objects are those of another heap.
+    /// Whether owner, next serial and objects are those of another heap. No row lies in a block.
     pub fn same(&self, other: &ObjectHeap) -> bool
-        ensures { IsTrue result ↔ IsSame self.now other.now }
+        requires { AllHere self.now }
+        ensures same { IsTrue result ↔ IsSame self.now other.now }
+        ensures alike { AllHere other.now → self.now.rows ≡ other.now.rows
+            → self.now.blocks ≡ other.now.blocks }
     {
         if self.owner != other.owner {
             return false;

@@ -19,11 +19,10 @@ use actor_table::ActorTable;
 use behaviour_check::Checked;
 use cycle_detect::Detector;
 use event_rule::Event;
-use letter_kinds::{Letter, SentArgs};
+use letter_kinds::{Letter, Load, SentArgs};
 use mail_rows::MailRow;
 use orca_names::{ActorName, NoMemory, Options, Trace, Value};
 use orca_parts::{Core, Parts, Ready, StepFault, apply, prepare};
-use plain_list::Listed;
 use std::alloc::Global;
 use std::collections::VecDeque;
 use std::marker::Model;
@@ -39,14 +38,21 @@ pub struct Orca<'a> {
 
 impl<'a> Model for Orca<'a> {
     ghost use Rattle.std.specs.Coded.{codes};
-    ghost use Rattle.actor_table.specs.Codes.{coded_entries, coded_known, coded_own};
+    ghost use Rattle.actor_table.specs.Codes.{coded_blocks, coded_entries, coded_known, coded_own, coded_own_blocks};
     ghost use Rattle.orca_core.specs.Machine as machine;
     ghost use Rattle.orca_parts.specs.Core.{core_state};
     ghost use Rattle.actor_table.specs.Slots.{away_of};
 
     ghost Value = { machine.Machine };
 
-    ghost coded = { Prim.hlevel (codes, coded_own, coded_entries, coded_known) };
+    ghost coded = { Prim.hlevel (
+      codes,
+      coded_own,
+      coded_own_blocks,
+      coded_entries,
+      coded_known,
+      coded_blocks,
+    ) };
 
     ghost view = { λ m. record {
       state = core_state m.core;
@@ -69,8 +75,8 @@ fn first_mail(alloc: Global, code: &Checked) -> Result<MailRow, NoMemory>
         mail.push(Letter::App {
             behaviour,
             args,
-            load: Listed::new(alloc),
-            rows: Listed::new(alloc),
+            load: Load::new(alloc),
+            rows: Load::new(alloc),
         });
     }
     Ok(mail)

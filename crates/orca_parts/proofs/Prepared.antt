@@ -1,7 +1,8 @@
 -- A turn that was found, and what it takes to be prepared.
-use Rattle.std.proofs.Common.{◌≡◌, ◌≤◌, ℕ, false, List, length, get_or, Option, None, Some, refl, sym, ap, subst, ◌∙◌}
-use Rattle.std.specs.Prelude.{IsSomeAnd}
+use Rattle.std.proofs.Common.{◌≡◌, ◌≤◌, ℕ, true, false, List, length, get_or, Option, None, Some, refl, sym, ap, subst, ◌∙◌}
+use Rattle.std.specs.Prelude.{IsSomeAnd, is_some}
 use Rattle.std.specs.Option.{option_map_or}
+use Rattle.std.proofs.lemmas.Bool.{false≢true}
 use Rattle.orca_names.specs.declared.limits.TheConstants.{BODY_LIMIT}
 use Rattle.behaviour_code.specs.declared.code.Program.{Program}
 use Rattle.turn_rules.specs.Segment.{Turn}
@@ -32,24 +33,23 @@ use Rattle.orca_parts.specs.declared.parts.Parts.{Parts}
 use Rattle.orca_parts.proofs.Giving.{seat_here}
 
 -- an actor that is present and not away has its cell at home
+home_in : (place : Place) (letters : List Letter) → is_some (seat_in place letters) ≡ true
+    → is_away_in place ≡ false → (y : Cell) × (place ≡ Home y)
+home_in (Home y) letters there home = (y, refl)
+home_in (Away y) letters there home = absurd (false≢true (sym home))
+home_in Gone letters there home = absurd (false≢true there)
+
 pub at_home : (slots : List Slot) (a : ℕ) (c : rules.Cell) (mail : List Letter) → seat_at (actors_of slots) a ≡ seat c mail
     → is_away (slot_at slots a) ≡ false → HasCell (slot_at slots a) (λ x. as_cell x ≡ c)
-at_home slots a c mail there home = by (slot_at slots a).place refl
-  where
-    x : Slot
-    x = slot_at slots a
-
-    seated : seat_in x.place x.mail.letters ≡ seat c mail
-    seated = sym (seat_read slots a) ∙ there
-
-    by : (place : Place) → x.place ≡ place → HasCell x (λ y. as_cell y ≡ c)
-    by (Home y) is = record {
-      cell = y;
-      home = is;
-      so = ap (λ o. option_map_or (λ (s : Seat). s.cell) o c) (sym (ap (λ p. seat_in p x.mail.letters) is) ∙ seated);
+at_home slots a c mail there home =
+    let x = slot_at slots a in
+    let seated = sym (seat_read slots a) ∙ there in
+    let found = home_in x.place x.mail.letters (ap is_some seated) home in
+    record {
+      cell = found.0;
+      home = found.1;
+      so = ap (λ o. option_map_or (λ (s : Seat). s.cell) o c) (sym (ap (λ p. seat_in p x.mail.letters) found.1) ∙ seated);
     }
-    by (Away y) is = let z = sym (ap is_away_in is) ∙ home in cc
-    by Gone is = let z = sym (ap (λ p. seat_in p x.mail.letters) is) ∙ seated in cc
 
 -- ---- one after another
 

@@ -1,11 +1,14 @@
 // The lines of letters.
 
-ghost use Rattle.std.specs.Prelude.{◌≡◌, ◌++◌, ◌∷◌, [], codes, flat_map, map, OnOk, string_bytes};
+ghost use Rattle.std.specs.Prelude.{◌≡◌, ◌++◌, ◌∷◌, [], codes, flat_map, map, None, OnOk, Option, string_bytes};
 ghost use Rattle.std.specs.Option.{option_map_or};
 ghost use Rattle.behaviour_text.specs.Text.{line_of};
+ghost use Rattle.letter_kinds.specs.Holdings.{Row as any_row};
 ghost use Rattle.letter_kinds.specs.Letters.{as_letter};
 ghost use Rattle.letter_kinds.specs.Load.{as_load};
-ghost use Rattle.row_store.specs.Told.{row_here};
+ghost use Rattle.orca_names.specs.declared.names.ObjName.{ObjName as object_name};
+ghost use Rattle.orca_names.specs.declared.names.Thing.{Thing as any_thing};
+ghost use Rattle.row_store.specs.Told.{told_block, told_row};
 ghost use Rattle.picture_rules.specs.Words.{amount_words, text_of_lines, thing_word, value_words};
 ghost use Rattle.picture_rules.specs.Seats.{brings_line, letter_lines, loads_lines};
 
@@ -17,13 +20,16 @@ use orca_names::{Args, Thing, Value};
 use row_store::Told;
 use std::alloc::AllocError;
 
-/// The values of the row that is told, none where none is.
+/// The values of the row that is told and lies in no block, none where none is told.
 fn values_of(told: &Told) -> &[Value]
-    ensures { result.now ≡ option_map_or (λ r. r) (row_here told.now) [] }
+    requires { told_block told.now ≡ None }
+    ensures { (rows : object_name → Option any_row) (x : any_thing)
+        → result.now ≡ option_map_or (λ r. r) (told_row rows x told.now) [] }
 {
     match told {
+        Told::Nothing => &[],
         Told::Here(row) => row.as_slice(),
-        Told::Nothing | Told::In(_) => &[],
+        Told::In(_) => unreachable!(),
     }
 }
 
@@ -60,7 +66,8 @@ fn push_loads(out: &mut String, load: &Load) -> Result<(), AllocError>
         return Ok(());
     }
     out.push_str("loads")?;
-    end_with_things(out, load.as_slice())
+    let (items, _) = load.parts();
+    end_with_things(out, items)
 }
 
 /// The lines of the rows that a letter brings.
@@ -68,7 +75,8 @@ fn push_brought(out: &mut String, rows: &Load) -> Result<(), AllocError>
     ensures { OnOk result (string_bytes out.new
         ≡ string_bytes out.old ++ text_of_lines (map brings_line (as_load rows.now))) }
 {
-    for (thing, row) in rows.as_slice() {
+    let (items, _) = rows.parts();
+    for (thing, row) in items {
         push_row(out, "brings", thing, values_of(row))?;
     }
     Ok(())

@@ -5,6 +5,8 @@ ghost use Rattle.known_rows.specs.Places.{HoldsOthersOnly};
 ghost use Rattle.local_sweep.specs.Marked.{is_reached};
 ghost use Rattle.local_sweep.specs.Plan.{back_of, plan_of};
 ghost use Rattle.root_trace.specs.Own.{roots_in};
+ghost use Rattle.known_rows.specs.Known.{block_known, row_known};
+ghost use Rattle.row_store.specs.Standing.{Stand};
 ghost use Rattle.row_store.specs.Words.{SameWords};
 ghost use Rattle.row_table.specs.Table.{as_held};
 
@@ -30,7 +32,9 @@ fn plan_in_use<W: RowWords>(
     brought: &ForeignTable,
     words: &mut W,
 ) -> Result<SweepPlan, NoMemory>
-    requires { HoldsOthersOnly heap.now brought.now }
+    requires others { HoldsOthersOnly heap.now brought.now }
+    requires stand { Stand (row_known heap.now brought.now) (block_known heap.now brought.now)
+        (W.known words.old) }
     ensures plan { let roots = roots_in fields.now.values heap.now in
         let in_use = is_reached roots heap.now brought.now in
         IfOk result (λ plan. plan ≡ plan_of in_use heap.now brought.now) }
@@ -54,7 +58,9 @@ pub fn unused_rows<W: RowWords>(
     known: &RowTable,
     words: &mut W,
 ) -> Result<Listed<(ActorName, Amounts)>, NoMemory>
-    requires { HoldsOthersOnly heap.now (as_held known.now) }
+    requires others { HoldsOthersOnly heap.now (as_held known.now) }
+    requires stand { let brought = as_held known.now in
+        Stand (row_known heap.now brought) (block_known heap.now brought) (W.known words.old) }
     ensures unused { let roots = roots_in fields.now.values heap.now in
         let in_use = is_reached roots heap.now (as_held known.now) in
         IfOk result (λ unused. unused ≡ back_of in_use heap.now (as_held known.now)) }

@@ -2,13 +2,15 @@
 
 ghost use Rattle.std.specs.Prelude.{◌≡◌, [], None, IfOk, OnOk, map};
 ghost use Rattle.letter_kinds.specs.Load.{as_load};
+ghost use Rattle.orca_names.specs.declared.names.ObjName.{ObjName as object_name};
 ghost use Rattle.reach_walk.specs.Marks.{load_lying, marks_of};
-ghost use Rattle.row_store.specs.Told.{lie_as, thing_row};
+ghost use Rattle.row_store.specs.Told.{thing_row};
 
 use crate::nowhere::NoRows;
 use letter_kinds::Load;
 use orca_names::{Args, NoMemory, Thing};
 use reach_walk::{TellsRows, ThingList, find_loaded, load_of, with_rows};
+use row_store::Remembered;
 use std::alloc::Global;
 
 /// Finds the things of the load of a letter: those that stand in its arguments, and the owners of
@@ -30,20 +32,27 @@ pub fn without_rows(alloc: Global, things: &[Thing]) -> Result<Load, NoMemory>
     ensures { IfOk result (λ load.
         as_load load ≡ map (λ x. (x, thing_row (λ n. None) x)) things.now) }
 {
-    with_rows(alloc, things, &mut NoRows)
+    let items = with_rows(alloc, things, &mut NoRows)?;
+    Ok(Load::with(items, Remembered::new()))
 }
 
 /// What a letter carries uncounted: all that its arguments reach through the rows that the sender
-/// knows, each object with its row as it lies.
+/// knows, each object with its row, none of which lies in a block.
 ///
 /// # Errors
 /// `NoMemory` where memory was refused.
-pub fn rows_of<R: TellsRows>(alloc: Global, args: &Args, known: &mut R) -> Result<Load, NoMemory>
-    ensures rows { let its = R.rows known.old in
-        let lying = load_lying its (R.blocks known.old) (R.all known.old) args.now in
-        IfOk result (λ rows. lie_as its rows ≡ lying) }
+pub fn rows_of<R: TellsRows>(
+    alloc: Global,
+    args: &Args,
+    known: &mut R,
+    memory: Remembered,
+) -> Result<Load, NoMemory>
+    requires here { (n : object_name) → R.blocks known.old n ≡ None }
+    ensures rows { let lying = load_lying (R.rows known.old) (R.blocks known.old) (R.all known.old) args.now in
+        IfOk result (λ rows. rows ≡ lying) }
     ensures same { (R.rows known.new ≡ R.rows known.old) × (R.all known.new ≡ R.all known.old)
         × (R.beside known.new ≡ R.beside known.old) }
 {
-    load_of(alloc, args, known)
+    let items = load_of(alloc, args, known)?;
+    Ok(Load::with(items, memory))
 }

@@ -1,7 +1,7 @@
 // The rows of an actor's own objects.
 
 ghost use Rattle.std.specs.Prelude.{◌≡◌, None, Some};
-ghost use Rattle.object_heap.specs.Heap.{own_row};
+ghost use Rattle.object_heap.specs.Heap.{own_block, own_row};
 
 use known_rows::KnownPlaces;
 use orca_names::Thing;
@@ -19,7 +19,7 @@ impl BlockRows for OwnRows<'_> {
 
     ghost rows = { λ s. own_row s.known.rows.heap.now };
 
-    ghost blocks = { λ _ _. None };
+    ghost blocks = { λ s. own_block s.known.rows.heap.now };
 
     ghost all = { λ s. own_names s.known.rows.heap.now };
 

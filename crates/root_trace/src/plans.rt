@@ -8,6 +8,8 @@ ghost use Rattle.local_sweep.specs.Plan.{plan_of};
 ghost use Rattle.machine_rules.specs.Cell.{Cell};
 ghost use Rattle.machine_rules.specs.Collect.{is_marked_by_roots};
 ghost use Rattle.root_trace.specs.Own.{object_root, roots_in};
+ghost use Rattle.object_heap.specs.Heap.{own_block, own_row};
+ghost use Rattle.row_store.specs.Standing.{Stand};
 ghost use Rattle.row_store.specs.Words.{SameWords};
 
 use crate::own_rows::OwnRows;
@@ -63,7 +65,8 @@ pub fn plan_roots<W: RowWords>(
     foreign: &ForeignTable,
     words: &mut W,
 ) -> Result<SweepPlan, NoMemory>
-    requires { HoldsOthersOnly heap.now foreign.now }
+    requires others { HoldsOthersOnly heap.now foreign.now }
+    requires stand { Stand (own_row heap.now) (own_block heap.now) (W.known words.old) }
     ensures plan { (c : Cell) → c.fields ≡ fields.now → c.holdings.rows ≡ heap.now.rows →
         let marked = is_marked_by_roots heap.now.owner c in
         IfOk result (λ plan. plan ≡ plan_of marked heap.now foreign.now) }

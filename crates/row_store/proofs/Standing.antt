@@ -1,9 +1,9 @@
 -- What rows stand in blocks.
-use Rattle.std.proofs.Common.{◌≡◌, ◌≢◌, ℕ, List, Option, Some, None, sym, ◌∙◌}
+use Rattle.std.proofs.Common.{◌≡◌, ◌≢◌, ℕ, List, Option, Some, None, IsSome, sym, subst, ◌∙◌}
 use Rattle.std.specs.FinMap as m
 use Rattle.orca_names.specs.declared.names.ObjName.{ObjName}
 use Rattle.orca_names.specs.declared.names.Value.{Value}
-use Rattle.row_store.specs.Standing.{Stand}
+use Rattle.row_store.specs.Standing.{AreRemembered, Stand}
 use Rattle.row_store.specs.Words.{IsRow, Words, with_row}
 use Rattle.row_store.proofs.Blocks.{put_keeps}
 
@@ -13,6 +13,14 @@ pub none_stand : (rows : ObjName → Option (List Value)) (blocks : ObjName → 
 none_stand rows blocks known none = record {
   is_row = λ n row block e f. let is = none n in cc;
   holds = λ n row block e f. let is = none n in cc;
+}
+
+-- and whatever is remembered
+pub none_remembered : (rows memory : ObjName → Option (List Value)) (blocks : ObjName → Option ℕ)
+    → ((n : ObjName) → blocks n ≡ None) → AreRemembered rows blocks memory
+none_remembered rows memory blocks none = record {
+  there = λ n some. let is = subst IsSome (none n) some in cc;
+  same = λ n some. let is = subst IsSome (none n) some in cc;
 }
 
 module _ (rows : ObjName → Option (List Value)) (blocks : ObjName → Option ℕ) (known : Words)

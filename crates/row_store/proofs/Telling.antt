@@ -1,14 +1,53 @@
--- What is told of rows none of which lies in a block.
-use Rattle.std.proofs.Common.{◌≡◌, ℕ, List, [], ◌∷◌, Option, Some, None, refl, ap, ◌∙◌}
+-- What is told of rows that are remembered.
+use Rattle.std.proofs.Common.{◌≡◌, ℕ, List, [], ◌∷◌, Option, Some, None, IsSome, true, ◌&&◌, get_or, refl, sym, ap, ◌∙◌, subst}
 use Rattle.std.specs.Prelude.{map}
+use Rattle.std.proofs.lemmas.Bool.{eq-eqb}
+use Rattle.std.proofs.lemmas.List.Elements.{All-map}
 use Rattle.orca_names.specs.declared.names.ObjName.{ObjName}
 use Rattle.orca_names.specs.declared.names.Thing.{Thing}
 use Rattle.orca_names.specs.declared.names.Thing.TheVariants.{Actor, Obj}
 use Rattle.orca_names.specs.declared.names.Value.{Value}
 use Rattle.row_store.specs.declared.told.Told.{Told}
 use Rattle.row_store.specs.declared.told.Told.TheVariants.{Nothing, Here, In}
-use Rattle.row_store.specs.Told.{Lying, lie_as, lies_as, row_here, thing_lies, thing_row}
+use Rattle.row_store.specs.Memory.{is_object}
+use Rattle.row_store.specs.Standing.{AreRemembered}
+use Rattle.row_store.specs.Told.{AreHere, Lying, lie_as, lies_as, row_here, thing_block, thing_lies, thing_row, told_block, told_of, told_row}
 
+pub row_told : (memory : ObjName → Option (List Value)) (n : ObjName) (row : List Value) (block : Option ℕ)
+    → (IsSome block → memory n ≡ Some row) → told_row memory (Obj n) (told_of row block) ≡ Some row
+row_told memory n row None known = refl
+row_told memory n row (Some block) known = known refl
+
+pub block_told : (row : List Value) (block : Option ℕ) → told_block (told_of row block) ≡ block
+block_told row None = refl
+block_told row (Some block) = refl
+
+-- a name is of the object that it names
+pub is_itself : (n : ObjName) → is_object n n ≡ true
+is_itself n = (λ j. eq-eqb n.owner n.owner refl j && eq-eqb n.serial n.serial refl j)
+
+-- things lie the same way by what is remembered of their rows
+module _ (rows memory : ObjName → Option (List Value)) (blocks : ObjName → Option ℕ)
+    (known : AreRemembered rows blocks memory) where
+  same_row : (x : Thing) (told : Told) → told_block told ≡ thing_block blocks x
+      → told_row memory x told ≡ told_row rows x told
+  same_row x Nothing lies = refl
+  same_row x (Here row) lies = refl
+  same_row (Actor a) (In block) lies = refl
+  same_row (Obj n) (In block) lies = known.same n (subst IsSome lies refl)
+
+  pub lie_same : (items : List (Thing × Told)) (things : List Thing)
+      → lie_as rows items ≡ map (λ x. (x, thing_lies rows blocks x)) things
+      → lie_as memory items ≡ lie_as rows items
+  lie_same [] things lie = refl
+  lie_same (e ∷ items) [] lie = cc
+  lie_same (e ∷ items) (x ∷ things) lie =
+      let first : lies_as rows e ≡ (x, thing_lies rows blocks x) = cc in
+      let others : lie_as rows items ≡ map (λ x. (x, thing_lies rows blocks x)) things = cc in
+      let its = same_row e.0 e.1 (ap (λ (l : Thing × Lying). l.1.block) first ∙ ap (thing_block blocks) (sym (ap (λ (l : Thing × Lying). l.0) first))) in
+      λ j. (e.0, record { row = its j; block = told_block e.1 }) ∷ lie_same items things others j
+
+-- where no row lies in a block, what is told is at hand
 -- the row, if it lies in no block
 row_outside : Option (List Value) → Option ℕ → Option (List Value)
 row_outside row None = row
@@ -45,3 +84,14 @@ all_at_hand rows (e ∷ items) (x ∷ things) lie =
     let row : row_here e.1 ≡ thing_row rows x =
     here_is rows e.0 e.1 ∙ (ap (λ (l : Thing × Lying). at_hand l.1) first ∙ its_row rows x) in
     λ j. (name j, row j) ∷ all_at_hand rows items things others j
+
+-- the block of a thing, where no row lies in one
+thing_here : (blocks : ObjName → Option ℕ) → ((n : ObjName) → blocks n ≡ None) → (x : Thing) → thing_block blocks x ≡ None
+thing_here blocks none (Actor a) = refl
+thing_here blocks none (Obj n) = none n
+
+-- and then no row of a load lies in one
+pub lie_here : (rows : ObjName → Option (List Value)) (blocks : ObjName → Option ℕ) → ((n : ObjName) → blocks n ≡ None)
+    → (things : List Thing) → AreHere (map (λ x. (x, thing_lies rows blocks x)) things)
+lie_here rows blocks none things =
+    All-map (λ (e : Thing × Lying). e.1.block ≡ None) (λ x. (x, thing_lies rows blocks x)) things (λ i d l. thing_here blocks none (get_or things i d))

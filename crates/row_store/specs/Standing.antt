@@ -1,5 +1,5 @@
 -- Rows that stand in blocks.
-use Rattle.std.specs.Prelude.{ℕ, ◌≡◌, List, Option, Some}
+use Rattle.std.specs.Prelude.{ℕ, ◌≡◌, List, Option, Some, IsSome}
 use Rattle.std.specs.Coded.{codes, le_prop, Unit-prop, ×_prop}
 use Rattle.orca_names.specs.declared.names.ObjName.{ObjName}
 use Rattle.orca_names.specs.declared.names.Value.{Value}
@@ -13,6 +13,12 @@ pub record Stand (rows : ObjName → Option (List Value)) (blocks : ObjName → 
       → blocks n ≡ Some block → IsRow row
   pub holds : (n : ObjName) (row : List Value) (block : ℕ) → rows n ≡ Some row
       → blocks n ≡ Some block → HoldsRow block row known
+
+-- what lies in a block is a row, and is remembered
+pub record AreRemembered (rows : ObjName → Option (List Value)) (blocks : ObjName → Option ℕ)
+    (memory : ObjName → Option (List Value)) : Type 0 where
+  pub there : (n : ObjName) → IsSome (blocks n) → IsSome (rows n)
+  pub same : (n : ObjName) → IsSome (blocks n) → memory n ≡ rows n
 
 -- there are not two ways for it to be so
 FitsValue-prop : (v : Value) → IsProp (FitsValue v)

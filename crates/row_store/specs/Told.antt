@@ -1,5 +1,6 @@
 -- What is told of rows, and which rows these are where they lie in blocks.
-use Rattle.std.specs.Prelude.{ℕ, List, Option, None, Some, map}
+use Rattle.std.specs.Prelude.{ℕ, ◌≡◌, List, Option, None, Some, map}
+use Rattle.std.specs.List.{All}
 use Rattle.orca_names.specs.declared.names.ObjName.{ObjName}
 use Rattle.orca_names.specs.declared.names.Thing.{Thing}
 use Rattle.orca_names.specs.declared.names.Thing.TheVariants.{Actor, Obj}
@@ -30,6 +31,20 @@ told_row rows x Nothing = None
 told_row rows x (Here row) = Some row
 told_row rows x (In block) = thing_row rows x
 
+-- what tells a row that lies in this block, if it lies in one
+abbrev pub told_of : List Value → Option ℕ → Told
+told_of row None = Here row
+told_of row (Some block) = In block
+
+-- a thing with its row
+abbrev pub as_loaded : (ObjName → Option (List Value)) → Thing × Told → Thing × Option (List Value)
+as_loaded rows e = (e.0, told_row rows e.0 e.1)
+
+-- things with their rows
+abbrev pub as_load : (ObjName → Option (List Value)) → List (Thing × Told)
+    → List (Thing × Option (List Value))
+as_load rows load = map (as_loaded rows) load
+
 -- the blocks of things, by the names of objects: an actor has none
 abbrev pub thing_block : (ObjName → Option ℕ) → Thing → Option ℕ
 thing_block blocks (Actor a) = None
@@ -51,3 +66,7 @@ lie_as rows items = map (lies_as rows) items
 -- how the row of a thing lies among these
 abbrev pub thing_lies : (ObjName → Option (List Value)) → (ObjName → Option ℕ) → Thing → Lying
 thing_lies rows blocks x = record { row = thing_row rows x; block = thing_block blocks x }
+
+-- no row lies in a block
+abbrev pub AreHere : List (Thing × Lying) → Type 0
+AreHere load = All (λ e. e.1.block ≡ None) load

@@ -1,16 +1,17 @@
 // The table.
 
-ghost use Rattle.std.specs.Prelude.{◌≡◌, ◌↔◌, ◌<◌, ◌≤◌, None, not, IfOk, IsTrue, MatchOption, OnOk};
+ghost use Rattle.std.specs.Prelude.{◌≡◌, ◌↔◌, ◌<◌, ◌≤◌, not, IfOk, IsSome, IsTrue, MatchOption, OnOk};
 ghost use Rattle.std.specs.FinMap as m;
-ghost use Rattle.row_store.specs.Told.{row_here};
+ghost use Rattle.row_store.specs.Memory.{remembered};
+ghost use Rattle.row_store.specs.Told.{row_here, told_block, told_row};
 ghost use Rattle.foreign_table.specs.Back.{BackRises, goes_back};
-ghost use Rattle.foreign_table.specs.Table.{row_length};
-ghost use Rattle.row_table.specs.Table.{as_held, learnt, nothing_known};
+ghost use Rattle.foreign_table.specs.Table.{no_table, row_length};
+ghost use Rattle.row_table.specs.Table.{AllKnownHere, as_held, learnt, nothing_known};
 
 use foreign_table::ForeignTable;
 use letter_kinds::Amounts;
 use orca_names::{ActorName, NoMemory, Thing};
-use row_store::Told;
+use row_store::{Remembered, Told};
 use std::alloc::Global;
 use std::marker::Model;
 
@@ -41,7 +42,8 @@ fn reserve_in(table: &mut ForeignTable, n: usize, values: usize) -> Result<(), N
     ensures values { OnOk result (values ≤ table.new.spare_values) }
     ensures more { (table.old.spare ≤ table.new.spare)
         × (table.old.spare_values ≤ table.new.spare_values) }
-    ensures same { table.new.entries ≡ table.old.entries }
+    ensures same { (table.new.entries ≡ table.old.entries)
+        × (table.new.blocks ≡ table.old.blocks) }
 {
     table.reserve(n)?;
     table.reserve_values(values)
@@ -62,7 +64,7 @@ impl RowTable {
         ensures values { OnOk result (values ≤ self.new.spare_values) }
         ensures more { (self.old.spare ≤ self.new.spare)
             × (self.old.spare_values ≤ self.new.spare_values) }
-        ensures same { self.new.rows ≡ self.old.rows }
+        ensures same { (self.new.rows ≡ self.old.rows) × (self.new.blocks ≡ self.old.blocks) }
     {
         match &mut self.held {
             Some(table) => reserve_in(table, n, values),
@@ -96,19 +98,23 @@ impl RowTable {
         self.reserve_some(n, values)
     }
 
-    /// The row of a thing is from now on the one that is told, if one is. It takes no memory.
-    pub fn learn(&mut self, thing: Thing, told: &Told)
+    /// The row of a thing is from now on the one that is told, if one is; in a block it is the one that
+    /// is remembered there. It takes no memory.
+    pub fn learn(&mut self, thing: Thing, told: &Told, from: &Remembered)
         requires room { 0 < self.old.spare }
         requires values { row_length (row_here told.now) ≤ self.old.spare_values }
-        ensures { self.new ≡ learnt thing (row_here told.now) self.old }
+        requires told { IsSome (told_block told.now)
+            → IsSome (told_row (remembered from.now) thing told.now) }
+        ensures { let row = told_row (remembered from.now) thing told.now in
+            self.new ≡ learnt thing row (told_block told.now) self.old }
     {
-        if !told.is_here() {
+        if !told.is_told() {
             return;
         }
         let Some(held) = &mut self.held else {
             unreachable!();
         };
-        held.gain(thing, told, 0);
+        held.gain(thing, told, from, 0);
     }
 
     /// The rows, as entries of count 0 among held things; `None` only where no row is known.
@@ -123,7 +129,7 @@ impl RowTable {
 
     /// The same, or where there is none this table of no entries.
     pub fn held_or<'a>(&'a self, empty: &'a ForeignTable) -> &'a ForeignTable
-        requires { empty.now ≡ record { spare = 0; spare_values = 0; entries = m.empty } }
+        requires { empty.now ≡ no_table }
         ensures { result.now ≡ as_held self.now }
     {
         match &self.held {
@@ -135,7 +141,10 @@ impl RowTable {
     /// Forgets the rows of these things, whose owners and things rise, in one pass.
     pub fn forget(&mut self, gone: &[(ActorName, Amounts)])
         requires { BackRises gone.now }
-        ensures { self.new.rows ≡ m.retain_keys self.old.rows (λ x. not (goes_back gone.now x)) }
+        ensures rows { self.new.rows
+            ≡ m.retain_keys self.old.rows (λ x. not (goes_back gone.now x)) }
+        ensures blocks { self.new.blocks
+            ≡ m.retain_keys self.old.blocks (λ x. not (goes_back gone.now x)) }
     {
         match &mut self.held {
             Some(held) => held.give_back(gone),
@@ -148,7 +157,8 @@ impl RowTable {
     /// # Errors
     /// `NoMemory` where memory was refused.
     pub fn copy(&self, alloc: Global) -> Result<RowTable, NoMemory>
-        ensures { IfOk result (λ copied. copied.rows ≡ self.now.rows) }
+        ensures { IfOk result (λ copied. (copied.rows ≡ self.now.rows)
+            × (copied.blocks ≡ self.now.blocks)) }
     {
         let held = match &self.held {
             Some(held) => Some(Box::new(alloc, held.copy(alloc)?)?),
@@ -159,7 +169,8 @@ impl RowTable {
 
     // Whether no row is known.
     fn is_empty(&self) -> bool
-        ensures { IsTrue result ↔ (self.now.rows ≡ m.empty) }
+        ensures rows { IsTrue result ↔ (self.now.rows ≡ m.empty) }
+        ensures blocks { IsTrue result → self.now.blocks ≡ m.empty }
     {
         match &self.held {
             Some(held) => held.len() == 0,
@@ -167,9 +178,13 @@ impl RowTable {
         }
     }
 
-    /// Whether the rows are those of another table.
+    /// Whether the rows are those of another table. No row lies in a block.
     pub fn same(&self, other: &RowTable) -> bool
-        ensures { IsTrue result ↔ (self.now.rows ≡ other.now.rows) }
+        requires { AllKnownHere self.now }
+        ensures same { IsTrue result
+            ↔ ((self.now.rows ≡ other.now.rows) × (self.now.blocks ≡ other.now.blocks)) }
+        ensures alike { AllKnownHere other.now → self.now.rows ≡ other.now.rows
+            → self.now.blocks ≡ other.now.blocks }
     {
         let Some(held) = &self.held else {
             return other.is_empty();

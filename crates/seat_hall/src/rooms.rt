@@ -20,11 +20,18 @@ pub struct CellRoom {
 impl Model for CellRoom {
     ghost use Rattle.std.specs.Coded.{codes};
     ghost use Rattle.actor_cell.specs.declared.cell.Cell.{Cell};
-    ghost use Rattle.actor_table.specs.Codes.{coded_entries, coded_known, coded_own};
+    ghost use Rattle.actor_table.specs.Codes.{coded_blocks, coded_entries, coded_known, coded_own, coded_own_blocks};
 
     ghost Value = { Cell };
 
-    ghost coded = { Prim.hlevel (codes, coded_own, coded_entries, coded_known) };
+    ghost coded = { Prim.hlevel (
+      codes,
+      coded_own,
+      coded_own_blocks,
+      coded_entries,
+      coded_known,
+      coded_blocks,
+    ) };
 
     ghost view = { λ r. r.cell.value };
 }

@@ -1,13 +1,14 @@
 // What tables of cases write as numbers, what is made of it, and the calls that may want memory.
 
 ghost use Rattle.std.specs.Prelude.{◌≡◌, ◌≤◌, IsTrue};
-ghost use Rattle.foreign_table.specs.Table.{row_length};
+ghost use Rattle.foreign_table.specs.Table.{AllHere as AllHeldHere, row_length};
+ghost use Rattle.object_heap.specs.Heap.{AllHere as AllOwnHere};
 ghost use Rattle.row_store.specs.Told.{row_here};
 
 use foreign_table::ForeignTable;
 use object_heap::ObjectHeap;
 use orca_names::{ActorName, Args, NoMemory, ObjName, Row, Serial, Thing, Value};
-use row_store::Told;
+use row_store::{Lent, Remembered, Told};
 use std::alloc::Global;
 
 /// A thing by numbers, since a constant can't hold a name.
@@ -95,9 +96,12 @@ pub(crate) fn told_of(values: &[Given]) -> Told {
     }
 }
 
-/// The number that a row begins with; one that no table writes where it begins with no number.
-pub(crate) fn number_in(row: Option<&[Value]>) -> Option<u64> {
-    match row?.first() {
+/// The number that a row at hand begins with; one that no table writes where it begins with no number.
+pub(crate) fn number_in(row: Lent<'_>) -> Option<u64> {
+    let Lent::Here(values) = row else {
+        return None;
+    };
+    match values.first() {
         Some(Value::Num(number)) => Some(*number),
         _ => Some(u64::MAX),
     }
@@ -156,21 +160,30 @@ fn told_len(told: &Told) -> usize
 pub(crate) fn reserves_one(table: &mut ForeignTable, told: &Told) -> bool
     ensures room { IsTrue result → 1 ≤ table.new.spare }
     ensures values { IsTrue result → row_length (row_here told.now) ≤ table.new.spare_values }
+    ensures blocks { table.new.blocks ≡ table.old.blocks }
 {
     table.reserve(1).is_ok() && table.reserve_values(told_len(told)).is_ok()
 }
 
 /// Gains so much on the thing. Whether there was memory, and no more than a million was held.
-fn gains(table: &mut ForeignTable, thing: &Thing, told: &Told, by: u64) -> bool {
-    if by > 1_000_000 || !reserves_one(table, told) || table.count(*thing) > 1_000_000 {
+fn gains(table: &mut ForeignTable, thing: &Thing, told: &Told, by: u64) -> bool
+    ensures { AllHeldHere table.old → AllHeldHere table.new }
+{
+    if by > 1_000_000
+        || told.block().is_some()
+        || !reserves_one(table, told)
+        || table.count(*thing) > 1_000_000
+    {
         return false;
     }
-    table.gain(*thing, told, by);
+    table.gain(*thing, told, &Remembered::new(), by);
     true
 }
 
 /// Gains so much on each of these things. Whether there was memory.
-pub(crate) fn gains_all(table: &mut ForeignTable, holdings: &[Holding]) -> bool {
+pub(crate) fn gains_all(table: &mut ForeignTable, holdings: &[Holding]) -> bool
+    ensures { AllHeldHere table.old → AllHeldHere table.new }
+{
     for (named, values, by) in holdings {
         if !gains(table, &thing_of(*named), &told_of(values), *by) {
             return false;
@@ -180,7 +193,9 @@ pub(crate) fn gains_all(table: &mut ForeignTable, holdings: &[Holding]) -> bool 
 }
 
 /// Makes an object of these values. Whether there was memory, and no more than a million were made.
-fn makes(heap: &mut ObjectHeap, values: &[Given]) -> bool {
+fn makes(heap: &mut ObjectHeap, values: &[Given]) -> bool
+    ensures { AllOwnHere heap.old → AllOwnHere heap.new }
+{
     let Some(row) = row_of(values) else {
         return false;
     };
@@ -192,7 +207,9 @@ fn makes(heap: &mut ObjectHeap, values: &[Given]) -> bool {
 }
 
 /// Makes an object of each of these rows. Whether there was memory.
-pub(crate) fn makes_all(heap: &mut ObjectHeap, rows: &[&[Given]]) -> bool {
+pub(crate) fn makes_all(heap: &mut ObjectHeap, rows: &[&[Given]]) -> bool
+    ensures { AllOwnHere heap.old → AllOwnHere heap.new }
+{
     for values in rows {
         if !makes(heap, values) {
             return false;
@@ -202,7 +219,9 @@ pub(crate) fn makes_all(heap: &mut ObjectHeap, rows: &[&[Given]]) -> bool {
 }
 
 /// The count of an object rises, where it is there and below a million.
-pub(crate) fn raise(heap: &mut ObjectHeap, n: &ObjName, by: u32) {
+pub(crate) fn raise(heap: &mut ObjectHeap, n: &ObjName, by: u32)
+    ensures { heap.new.blocks ≡ heap.old.blocks }
+{
     if heap.has(*n) {
         if heap.count(*n) < 1_000_000 {
             heap.raise(*n, u64::from(by));

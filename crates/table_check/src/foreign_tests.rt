@@ -1,5 +1,7 @@
 // A table through its calls that may want memory.
 
+ghost use Rattle.foreign_table.specs.Table.{AllHere};
+
 use crate::cases::{Given, Holding, Named, gains_all, number_in, object, thing_of};
 use foreign_table::ForeignTable;
 use letter_kinds::Amounts;
@@ -13,7 +15,9 @@ const COUNTED: &[Holding] = &[
     (Named::Actor(3), &[], 256),
 ];
 
-fn differs_once_spent(table: &mut ForeignTable, before: &ForeignTable) -> bool {
+fn differs_once_spent(table: &mut ForeignTable, before: &ForeignTable) -> bool
+    requires { AllHere table.old }
+{
     let five = &thing_of(Named::Actor(5));
     let same = table.same(before);
     if table.count(*five) > 0 {
@@ -23,7 +27,9 @@ fn differs_once_spent(table: &mut ForeignTable, before: &ForeignTable) -> bool {
 }
 
 /// Whether a table differs from its copy once a count is spent.
-fn differs_from_copy(alloc: Global, table: &mut ForeignTable) -> bool {
+fn differs_from_copy(alloc: Global, table: &mut ForeignTable) -> bool
+    requires { AllHere table.old }
+{
     match table.copy(alloc) {
         Ok(before) => differs_once_spent(table, &before),
         Err(_) => false,
@@ -39,7 +45,9 @@ fn tells_two_actors(alloc: Global, table: &ForeignTable) -> bool {
 }
 
 /// Whether a table differs from its copy once a count is spent, and then has these counts and places.
-fn counts_so(alloc: Global, table: &mut ForeignTable) -> bool {
+fn counts_so(alloc: Global, table: &mut ForeignTable) -> bool
+    requires { AllHere table.old }
+{
     gains_all(table, COUNTED)
         && differs_from_copy(alloc, table)
         && tells_two_actors(alloc, table)
@@ -125,7 +133,9 @@ fn nine_objects(alloc: Global) -> Result<Amounts, NoMemory> {
     Ok(things)
 }
 
-fn stays_for_nine(alloc: Global, table: &mut ForeignTable, before: &ForeignTable) -> bool {
+fn stays_for_nine(alloc: Global, table: &mut ForeignTable, before: &ForeignTable) -> bool
+    requires { AllHere table.old }
+{
     let reserved = match nine_objects(alloc) {
         Ok(things) => table.reserve_for(&things).is_ok(),
         Err(_) => false,
@@ -134,7 +144,9 @@ fn stays_for_nine(alloc: Global, table: &mut ForeignTable, before: &ForeignTable
 }
 
 /// Whether a table that takes room for nine things, one of which it holds, has what it had.
-fn is_as_before(alloc: Global, table: &mut ForeignTable) -> bool {
+fn is_as_before(alloc: Global, table: &mut ForeignTable) -> bool
+    requires { AllHere table.old }
+{
     let gained = gains_all(table, FIFTH);
     let stays = match table.copy(alloc) {
         Ok(before) => stays_for_nine(alloc, table, &before),

@@ -1,5 +1,7 @@
 // A heap through its calls that may want memory.
 
+ghost use Rattle.object_heap.specs.Heap.{AllHere};
+
 use crate::cases::{Given, makes_all, number_in, object, raise};
 use object_heap::ObjectHeap;
 use orca_names::{ActorName, ObjName};
@@ -10,21 +12,21 @@ const TWO_ROWS: &[&[Given]] = &[&[Given::Num(7)], &[Given::Num(8)]];
 
 // The number of an object, and its place.
 fn look(heap: &ObjectHeap, n: &ObjName) -> (Option<u64>, Option<usize>) {
-    let number = match heap.row(*n) {
-        Some(row) => number_in(Some(row.as_slice())),
-        None => None,
-    };
-    (number, heap.place(*n))
+    (number_in(heap.row(*n)), heap.place(*n))
 }
 
-fn differs_once_raised(heap: &mut ObjectHeap, before: &ObjectHeap) -> bool {
+fn differs_once_raised(heap: &mut ObjectHeap, before: &ObjectHeap) -> bool
+    requires { AllHere heap.old }
+{
     let same = heap.same(before);
     raise(heap, &object(4, 1), 256);
     same && !heap.same(before) && before.len() == 2
 }
 
 /// Whether a heap differs from its copy once the count of the second object is raised.
-fn differs_from_copy(alloc: Global, heap: &mut ObjectHeap) -> bool {
+fn differs_from_copy(alloc: Global, heap: &mut ObjectHeap) -> bool
+    requires { AllHere heap.old }
+{
     match heap.copy(alloc) {
         Ok(before) => differs_once_raised(heap, &before),
         Err(_) => false,
@@ -32,7 +34,9 @@ fn differs_from_copy(alloc: Global, heap: &mut ObjectHeap) -> bool {
 }
 
 /// Whether two objects are made, of which the second has its number and its place, and are copied.
-fn makes_two(alloc: Global, heap: &mut ObjectHeap) -> bool {
+fn makes_two(alloc: Global, heap: &mut ObjectHeap) -> bool
+    requires { AllHere heap.old }
+{
     makes_all(heap, TWO_ROWS)
         && differs_from_copy(alloc, heap)
         && look(heap, &object(4, 1)) == (Some(8), Some(1))

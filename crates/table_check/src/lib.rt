@@ -4,6 +4,8 @@
 #[cfg(test)]
 mod block_table_tests;
 #[cfg(test)]
+mod block_tests;
+#[cfg(test)]
 mod cases;
 #[cfg(test)]
 mod count_tests;

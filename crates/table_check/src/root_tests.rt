@@ -1,5 +1,8 @@
 // What letters load and carry, and what a thing that was got lets its taker lack.
 
+ghost use Rattle.foreign_table.specs.Table.{AllHere as AllHeldHere};
+ghost use Rattle.object_heap.specs.Heap.{AllHere as AllOwnHere};
+
 use crate::cases::{
     Given, Holding, Loaded, Named, are_loaded, are_things, args_of, gains_all, thing_of,
 };
@@ -9,7 +12,7 @@ use object_heap::ObjectHeap;
 use orca_names::{ActorName, Args};
 use reach_walk::{ThingList, WithWords};
 use root_trace::{NoRows, find_loaded_roots, missing, rows_of, without_rows};
-use row_store::NoBlocks;
+use row_store::{NoBlocks, Remembered};
 use std::alloc::Global;
 
 const ARGUMENTS: &[Given] = &[
@@ -31,15 +34,15 @@ fn finds_load(alloc: Global, args: &Args, things: &mut ThingList) -> bool {
         return false;
     }
     match without_rows(alloc, things.as_slice()) {
-        Ok(load) => are_loaded(load.as_slice(), LOAD),
+        Ok(load) => are_loaded(load.parts().0, LOAD),
         Err(_) => false,
     }
 }
 
 /// Whether a letter whose sender knows no row carries what it loads.
 fn carries_load(alloc: Global, args: &Args) -> bool {
-    match rows_of(alloc, args, &mut NoRows) {
-        Ok(rows) => are_loaded(rows.as_slice(), LOAD),
+    match rows_of(alloc, args, &mut NoRows, Remembered::new()) {
+        Ok(rows) => are_loaded(rows.parts().0, LOAD),
         Err(_) => false,
     }
 }
@@ -63,7 +66,10 @@ const CARRIED: &[Loaded] = &[
 ];
 
 /// Whether a letter whose sender holds that object carries its row, and what that leads to.
-fn carries_rows(alloc: Global, heap: &ObjectHeap, foreign: &mut ForeignTable) -> bool {
+fn carries_rows(alloc: Global, heap: &ObjectHeap, foreign: &mut ForeignTable) -> bool
+    requires own { AllOwnHere heap.now }
+    requires held { AllHeldHere foreign.old }
+{
     if !gains_all(foreign, HELD) {
         return false;
     }
@@ -73,8 +79,9 @@ fn carries_rows(alloc: Global, heap: &ObjectHeap, foreign: &mut ForeignTable) ->
         alloc,
         &args,
         &mut WithWords::of(&known, &mut NoBlocks::default()),
+        Remembered::new(),
     ) {
-        Ok(rows) => are_loaded(rows.as_slice(), CARRIED),
+        Ok(rows) => are_loaded(rows.parts().0, CARRIED),
         Err(_) => false,
     }
 }

@@ -1,5 +1,8 @@
 // What an actor frees and gives back.
 
+ghost use Rattle.foreign_table.specs.Table.{AllHere as AllHeldHere};
+ghost use Rattle.object_heap.specs.Heap.{AllHere as AllOwnHere};
+
 use crate::cases::{
     Amount, Given, Holding, Named, are_amounts, args_of, gains_all, makes_all, object, raise,
 };
@@ -182,7 +185,10 @@ fn sweeps(
     sweep: &Sweep,
     heap: &mut ObjectHeap,
     foreign: &mut ForeignTable,
-) -> bool {
+) -> bool
+    requires own { AllOwnHere heap.old }
+    requires held { AllHeldHere foreign.old }
+{
     let known = KnownPlaces::of(heap, foreign);
     if !known.holds_others_only() {
         return false;
@@ -202,7 +208,10 @@ fn plans_by_own_rows(
     sweep: &Sweep,
     heap: &ObjectHeap,
     foreign: &ForeignTable,
-) -> bool {
+) -> bool
+    requires own { AllOwnHere heap.now }
+    requires held { AllHeldHere foreign.now }
+{
     let known = KnownPlaces::of(heap, foreign);
     if !known.holds_others_only() {
         return false;
@@ -248,12 +257,10 @@ fn plans_by_a_mark(
 }
 
 /// Whether an actor that holds nothing yet and has no object sweeps as is wanted once it has all this.
-fn ends_so(
-    alloc: Global,
-    sweep: &Sweep,
-    heap: &mut ObjectHeap,
-    foreign: &mut ForeignTable,
-) -> bool {
+fn ends_so(alloc: Global, sweep: &Sweep, heap: &mut ObjectHeap, foreign: &mut ForeignTable) -> bool
+    requires own { AllOwnHere heap.old }
+    requires held { AllHeldHere foreign.old }
+{
     let first = &object(sweep.actor, 0);
     let ready = gains_all(foreign, sweep.held) && makes_all(heap, sweep.rows);
     if sweep.counted > 0 {

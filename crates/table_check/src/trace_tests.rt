@@ -1,6 +1,8 @@
 // What a letter's sender lacks, by what it holds, and what its taker and its sender count.
 
-ghost use Rattle.std.specs.Prelude.{◌≡◌, ◌∷◌, [], IfOk};
+ghost use Rattle.std.specs.Prelude.{◌≡◌, ◌∷◌, [], IfOk, None};
+ghost use Rattle.letter_kinds.specs.Load.{as_load};
+ghost use Rattle.row_store.specs.Told.{row_here, told_block};
 
 use crate::cases::{
     Amount, Given, Holding, Loaded, Named, are_amounts, gains_all, reserves_one, thing_of, told_of,
@@ -9,8 +11,9 @@ use foreign_table::ForeignTable;
 use letter_kinds::Load;
 use object_heap::ObjectHeap;
 use orca_names::{ActorName, NoMemory, Thing};
+use plain_list::Listed;
 use ref_weights::OwnCount;
-use row_store::Told;
+use row_store::{Remembered, Told};
 use std::alloc::Global;
 use trace_send::{lacking, receive_trace, send_trace};
 
@@ -67,11 +70,12 @@ fn the_first_owner_is_told_what_is_lacked(rt: HostRuntime) {
 
 // The load of one thing.
 fn load_with(alloc: Global, thing: &Thing, told: &Told) -> Result<Load, NoMemory>
-    ensures { IfOk result (λ load. load ≡ (thing.now, told.now) ∷ []) }
+    requires { told_block told.now ≡ None }
+    ensures { IfOk result (λ load. as_load load ≡ (thing.now, row_here told.now) ∷ []) }
 {
-    let mut load = Load::new(alloc);
-    load.push((*thing, *told))?;
-    Ok(load)
+    let mut items = Listed::new(alloc);
+    items.push((*thing, *told))?;
+    Ok(Load::with(items, Remembered::new()))
 }
 
 // The actor takes a letter that loads this thing of another. Whether it could.
@@ -83,7 +87,7 @@ fn take(
     told: &Told,
 ) -> bool {
     let me = heap.owner();
-    if !reserves_one(foreign, told) {
+    if told.block().is_some() || !reserves_one(foreign, told) {
         return false;
     }
     if thing.owner() == me {
@@ -111,7 +115,7 @@ fn send(
     told: &Told,
 ) -> bool {
     let me = heap.owner();
-    if thing.owner() == me {
+    if told.block().is_some() || thing.owner() == me {
         return false;
     }
     if foreign.count(*thing) == 0 {

@@ -1,9 +1,12 @@
 -- The first thing that is lacked, and those of its owner.
-use Rattle.std.proofs.Common.{◌≡◌, ℕ, zero, suc, ◌<◌, ◌==◌, ◌&&◌, ◌||◌, Bool, true, false, cond, List, [], ◌∷◌, length, get_or, take, map, Some, None, refl, sym, ap, ◌∙◌, arith}
+use Rattle.std.proofs.Common.{◌≡◌, ℕ, zero, suc, ◌<◌, ◌==◌, ◌&&◌, ◌||◌, Bool, true, false, cond, Option, List, [], ◌∷◌, length, get_or, take, map, Some, None, refl, sym, ap, ◌∙◌, arith}
 use Rattle.std.specs.Prelude.{slice_get, option_map}
 use Rattle.std.specs.List.{filter, list_any}
 use Rattle.orca_names.specs.Names.{owner_of}
+use Rattle.orca_names.specs.declared.names.ObjName.{ObjName}
 use Rattle.orca_names.specs.declared.names.Thing.{Thing}
+use Rattle.orca_names.specs.declared.names.Value.{Value}
+use Rattle.row_store.specs.Told.{lie_as}
 use Rattle.row_store.specs.declared.told.Told.{Told}
 use Rattle.letter_kinds.specs.Load.{as_load}
 use Rattle.letter_kinds.specs.Counting.{Amount, Loaded, is_lacking}
@@ -58,7 +61,10 @@ unfolding held_in
 lacking-is me count heap foreign things = refl
 
 -- so is whether some of a load is lacked
-pub any_lacking-is : (me count : ℕ) (heap : Heap) (foreign : Table) (load : List (Thing × Told)) → list_any (λ (e : Thing × Told). is_lacked me foreign e.0) load ≡ list_any (λ (e : Loaded). is_lacking me (holdings_of count heap foreign) e.0) (as_load load)
+pub any_lacking-is : (me count : ℕ) (heap : Heap) (foreign : Table) (rows : ObjName → Option (List Value)) (items : List (Thing × Told))
+    → list_any (λ (e : Thing × Told). is_lacked me foreign e.0) items
+    ≡ list_any (λ (e : Loaded). is_lacking me (holdings_of count heap foreign) e.0) (as_load (lie_as rows items))
 unfolding held_in
-any_lacking-is me count heap foreign [] = refl
-any_lacking-is me count heap foreign (e ∷ load) = ap (λ b. is_lacked me foreign e.0 || b) (any_lacking-is me count heap foreign load)
+any_lacking-is me count heap foreign rows [] = refl
+any_lacking-is me count heap foreign rows (e ∷ items) =
+    ap (λ b. is_lacked me foreign e.0 || b) (any_lacking-is me count heap foreign rows items)

@@ -67,10 +67,10 @@ module _ (count : ℕ) (heap : Heap) (foreign : Table) where
 
 -- nothing held, and nothing owned
 pub no_table : Table
-no_table = record { spare = 0; spare_values = 0; entries = m.empty }
+no_table = record { spare = 0; spare_values = 0; entries = m.empty; blocks = m.empty }
 
 pub no_heap : Heap
-no_heap = record { owner = 0; next = 0; spare = 0; rows = m.empty }
+no_heap = record { owner = 0; next = 0; spare = 0; rows = m.empty; blocks = m.empty }
 
 -- ---- own counts change alike, whatever is held of others
 

@@ -3,7 +3,9 @@ use Rattle.std.proofs.Common.{◌≡◌, ◌≢◌, not, false, eq-eqb, ℕ, ◌
 use Rattle.std.specs.Prelude.{is_some}
 use Rattle.std.specs.FinMap as m
 use Rattle.std.proofs.lemmas.Bool.{eqb-true, not-false}
+use Rattle.std.specs.List.{sum_by}
 use Rattle.std.proofs.lemmas.List.{drop_more}
+use Rattle.std.proofs.lemmas.List.Elements.{All-head, All-tail}
 use Rattle.std.proofs.lemmas.List.Sums.{sum_by-cons}
 use Rattle.orca_names.specs.Names.{owner_of}
 use Rattle.orca_names.specs.declared.names.ObjName.{ObjName}
@@ -13,13 +15,17 @@ use Rattle.letter_kinds.specs.Counting.{Loaded, set_own, set_held, lower, raise,
 use Rattle.letter_kinds.specs.Holdings.{Holdings, Row, own_in, held_in, has_own, row_count, entry_count, entry_row}
 use Rattle.ref_weights.specs.Limit.{count_limit}
 use Rattle.letter_kinds.specs.Load.{as_load, as_loaded}
-use Rattle.row_store.specs.Told.{row_here}
+use Rattle.orca_names.specs.declared.names.Value.{Value}
+use Rattle.row_store.specs.Told.{AreHere, Lying, lie_as, lies_as, row_here, told_block, told_row}
 use Rattle.row_store.specs.declared.told.Told.{Told}
+use Rattle.row_store.specs.declared.told.Told.TheVariants.{Nothing, Here, In}
+use Rattle.letter_kinds.proofs.Loads.{long_load, seen_at}
 use Rattle.letter_kinds.proofs.Counts.{cond_eq, cond_ne}
 use Rattle.object_heap.specs.Heap.{Heap, Has, counted}
 use Rattle.foreign_table.specs.Table.{Table, count_on, entered, row_length}
 use Rattle.foreign_table.specs.Table as tables
 use Rattle.known_rows.specs.Holdings.{holdings_of}
+use Rattle.trace_send.specs.Can.{CanSendOne}
 use Rattle.trace_send.specs.Room.{values_of}
 
 module _ (count : ℕ) (heap : Heap) (foreign : Table) where
@@ -31,9 +37,9 @@ module _ (count : ℕ) (heap : Heap) (foreign : Table) where
   unfolding set_own
   set-object f n = refl
 
-  pub set-held : (f : ℕ → ℕ) (x : Thing) (row : Option Row) → set_held f x row (holdings_of count heap foreign) ≡ holdings_of count heap (entered f x row foreign)
+  pub set-held : (f : ℕ → ℕ) (x : Thing) (row : Option Row) (block : Option ℕ) → set_held f x row (holdings_of count heap foreign) ≡ holdings_of count heap (entered f x row block foreign)
   unfolding set_held held_in
-  set-held f x row = refl
+  set-held f x row block = refl
 
   pub set-spent : (f : ℕ → ℕ) (x : Thing) → set_held f x (entry_row (m.get foreign.entries x)) (holdings_of count heap foreign) ≡ holdings_of count heap (tables.counted f x foreign)
   unfolding set_held held_in
@@ -66,8 +72,8 @@ held_some (Some e) h = refl
 -- ---- one thing received
 
 module _ (me count : ℕ) (heap : Heap) (foreign : Table) (e : Loaded) where
-  pub receives_other : owner_of e.0 ≢ me → holdings_of count heap (entered (λ n. n + 1) e.0 e.1 foreign) ≡ receive_one me e (holdings_of count heap foreign)
-  receives_other other = sym (cond_ne (owner_of e.0) me (lower 1 e.0 (holdings_of count heap foreign)) (gain 1 e.0 e.1 (holdings_of count heap foreign)) other ∙ set-held count heap foreign (λ n. n + 1) e.0 e.1)
+  pub receives_other : (block : Option ℕ) → owner_of e.0 ≢ me → holdings_of count heap (entered (λ n. n + 1) e.0 e.1 block foreign) ≡ receive_one me e (holdings_of count heap foreign)
+  receives_other block other = sym (cond_ne (owner_of e.0) me (lower 1 e.0 (holdings_of count heap foreign)) (gain 1 e.0 e.1 (holdings_of count heap foreign)) other ∙ set-held count heap foreign (λ n. n + 1) e.0 e.1 block)
 
   pub receives_own : owner_of e.0 ≡ me → lower 1 e.0 (holdings_of count heap foreign) ≡ receive_one me e (holdings_of count heap foreign)
   receives_own same = sym (cond_eq (owner_of e.0) me (lower 1 e.0 (holdings_of count heap foreign)) (gain 1 e.0 e.1 (holdings_of count heap foreign)) same)
@@ -100,10 +106,49 @@ pub rest_of : {A : Type 0} (load : List A) (i : ℕ) (e : A) → i < length load
 rest_of load i e l is = drop_more load i e l ∙ ap (λ f. f ∷ drop (i + 1) load) (sym is)
 
 -- the values of what is left of a load are those of its first thing and of the others
-pub values_rest : (load : List (Thing × Told)) (i : ℕ) (e : Thing × Told) → drop i load ≡ e ∷ drop (i + 1) load
-    → values_of (as_load (drop i load)) ≡ row_length (row_here e.1) + values_of (as_load (drop (i + 1) load))
+pub values_rest : (load : List (Thing × Lying)) (i : ℕ) (e : Thing × Lying) → drop i load ≡ e ∷ drop (i + 1) load
+    → values_of (as_load (drop i load)) ≡ row_length e.1.row + values_of (as_load (drop (i + 1) load))
 values_rest load i e rest =
     ap (λ xs. values_of (as_load xs)) rest ∙ sum_by-cons (λ (x : Loaded). row_length x.1) (as_loaded e) (as_load (drop (i + 1) load))
+
+-- ---- rows at hand
+
+-- a row that lies in no block is at hand
+pub row_at_hand : (rows : ObjName → Option (List Value)) (x : Thing) (told : Told) → told_block told ≡ None
+    → row_here told ≡ told_row rows x told
+row_at_hand rows x Nothing here = refl
+row_at_hand rows x (Here row) here = refl
+row_at_hand rows x (In block) here = cc
+
+-- so are the values of all rows of a load
+pub values_at_hand : (rows : ObjName → Option (List Value)) (items : List (Thing × Told)) → AreHere (lie_as rows items)
+    → sum_by (λ (e : Thing × Told). row_length (row_here e.1)) items ≡ values_of (as_load (lie_as rows items))
+values_at_hand rows [] here = refl
+values_at_hand rows (e ∷ items) here =
+    let its : Thing × Told → ℕ = λ e. row_length (row_here e.1) in
+    let first : told_block e.1 ≡ None = All-head (λ (l : Thing × Lying). l.1.block ≡ None) (lies_as rows e) (lie_as rows items) here in
+    let others = values_at_hand rows items (All-tail (λ (l : Thing × Lying). l.1.block ≡ None) (lies_as rows e) (lie_as rows items) here) in
+    sum_by-cons its e items
+    ∙ (λ j. row_length (row_at_hand rows e.0 e.1 first j) + others j)
+    ∙ sym (sum_by-cons (λ (x : Loaded). row_length x.1) (as_loaded (lies_as rows e)) (as_load (lie_as rows items)))
+
+-- what its sender's counts allow is no matter of its row
+pub can_send_bare : (me : ℕ) (e : Loaded) (h : Holdings) → CanSendOne me e h → CanSendOne me (e.0, None) h
+can_send_bare me e h can = record { there = can.there; own = can.own; held = can.held }
+
+-- a thing that is told at a place of a load's items
+module _ (rows : ObjName → Option (List Value)) (items : List (Thing × Told)) (load : List (Thing × Lying)) (is : lie_as rows items ≡ load)
+    (i : ℕ) (e : Thing × Told) (l : i < length items) (there : e ≡ get_or items i e) where
+  pub within_load : i < length load
+  within_load = let long = long_load rows items load is in omega arith
+
+  -- the rest of the load begins with it
+  pub seen_rest : drop i load ≡ lies_as rows e ∷ drop (i + 1) load
+  seen_rest = rest_of load i (lies_as rows e) within_load (seen_at rows items load is i e l there)
+
+  -- its row is at hand
+  pub seen_here : AreHere load → told_block e.1 ≡ None
+  seen_here here = ap (λ (x : Thing × Lying). x.1.block) (seen_at rows items load is i e l there) ∙ here i (lies_as rows e) within_load
 
 -- ---- tests on owners
 

@@ -7,7 +7,7 @@ ghost use Rattle.letter_kinds.specs.Counting.{lower_all, mint_all, raise_all};
 ghost use Rattle.letter_kinds.specs.Holdings.{own_in, row_count};
 ghost use Rattle.ref_weights.specs.Limit.{count_limit};
 ghost use Rattle.object_heap.specs.Heap.{Heap, counted};
-ghost use Rattle.foreign_table.specs.Table.{Table, count_unheld};
+ghost use Rattle.foreign_table.specs.Table.{AllHere, Table, count_unheld};
 ghost use Rattle.known_rows.specs.Holdings.{holdings_of};
 ghost use Rattle.trace_send.specs.Can.{CanLower, CanMint, CanRaise};
 
@@ -47,6 +47,7 @@ fn raise_one(amount: &(Thing, u64), me: ActorName, own: &mut OwnCount, heap: &mu
     ensures counts { (foreign : Table) → holdings_of own.new heap.new foreign
         ≡ raise_all me (amount.now ∷ []) (holdings_of own.old heap.old foreign) }
     ensures owner { heap.new.owner ≡ heap.old.owner }
+    ensures blocks { heap.new.blocks ≡ heap.old.blocks }
 {
     let thing = &amount.0;
     if thing.owner() != me {
@@ -66,6 +67,7 @@ fn lower_one(amount: &(Thing, u64), me: ActorName, own: &mut OwnCount, heap: &mu
     ensures counts { (foreign : Table) → holdings_of own.new heap.new foreign
         ≡ lower_all me (amount.now ∷ []) (holdings_of own.old heap.old foreign) }
     ensures owner { heap.new.owner ≡ heap.old.owner }
+    ensures blocks { heap.new.blocks ≡ heap.old.blocks }
 {
     let thing = &amount.0;
     if thing.owner() != me {
@@ -84,6 +86,7 @@ pub fn raise_counts(things: &Amounts, me: ActorName, own: &mut OwnCount, heap: &
     ensures counts { (foreign : Table) → holdings_of own.new heap.new foreign
         ≡ raise_all me things.now (holdings_of own.old heap.old foreign) }
     ensures owner { heap.new.owner ≡ heap.old.owner }
+    ensures blocks { heap.new.blocks ≡ heap.old.blocks }
 {
     for amount in things.as_slice() {
         raise_one(amount, me, own, heap);
@@ -97,6 +100,7 @@ pub fn lower_counts(things: &Amounts, me: ActorName, own: &mut OwnCount, heap: &
     ensures counts { (foreign : Table) → holdings_of own.new heap.new foreign
         ≡ lower_all me things.now (holdings_of own.old heap.old foreign) }
     ensures owner { heap.new.owner ≡ heap.old.owner }
+    ensures blocks { heap.new.blocks ≡ heap.old.blocks }
 {
     for amount in things.as_slice() {
         lower_one(amount, me, own, heap);
@@ -107,8 +111,9 @@ pub fn lower_counts(things: &Amounts, me: ActorName, own: &mut OwnCount, heap: &
 pub fn mint_counts(things: &Amounts, foreign: &mut ForeignTable)
     requires can { (count : ℕ) (heap : Heap) → CanMint things.now (holdings_of count heap foreign.old) }
     requires room { count_unheld things.now foreign.old.entries ≤ foreign.old.spare }
-    ensures { (count : ℕ) (heap : Heap) → holdings_of count heap foreign.new
+    ensures counts { (count : ℕ) (heap : Heap) → holdings_of count heap foreign.new
         ≡ mint_all things.now (holdings_of count heap foreign.old) }
+    ensures here { AllHere foreign.old → AllHere foreign.new }
 {
     for amount in things.as_slice() {
         foreign.mint(amount.0, amount.1);

@@ -44,7 +44,8 @@ pub fn lacks_any(load: &Load, me: ActorName, foreign: &ForeignTable) -> bool
     ensures { (count : ℕ) (heap : Heap) → let held = holdings_of count heap foreign.now in
         result ≡ list_any (λ e. is_lacking me held e.0) (as_load load.now) }
 {
-    for loaded in load.as_slice() {
+    let (items, _) = load.parts();
+    for loaded in items {
         if is_lacked(&loaded.0, me, foreign) {
             return true;
         }

@@ -1,11 +1,12 @@
 // Who takes a letter counts what it loads.
 
-ghost use Rattle.std.specs.Prelude.{◌≡◌, ◌+◌, ◌≤◌, length};
+ghost use Rattle.std.specs.Prelude.{◌≡◌, ◌+◌, ◌≤◌, None, length};
 ghost use Rattle.letter_kinds.specs.Load.{as_load, as_loaded};
-ghost use Rattle.row_store.specs.Told.{row_here};
+ghost use Rattle.row_store.specs.Memory.{remembered};
+ghost use Rattle.row_store.specs.Told.{lies_as, row_here, told_block};
 ghost use Rattle.letter_kinds.specs.Counting.{receive, receive_one};
 ghost use Rattle.known_rows.specs.Holdings.{holdings_of};
-ghost use Rattle.foreign_table.specs.Table.{row_length};
+ghost use Rattle.foreign_table.specs.Table.{AllHere, row_length};
 ghost use Rattle.trace_send.specs.Can.{CanReceive, CanReceiveOne};
 ghost use Rattle.trace_send.specs.Room.{values_of};
 
@@ -14,30 +15,36 @@ use letter_kinds::Load;
 use object_heap::ObjectHeap;
 use orca_names::{ActorName, Thing};
 use ref_weights::OwnCount;
-use row_store::Told;
+use row_store::{Remembered, Told};
 
 // One less on a thing of its own, which the letter held so far; one more on another's.
 fn receive_thing(
     loaded: &(Thing, Told),
+    from: &Remembered,
     me: ActorName,
     own: &mut OwnCount,
     heap: &mut ObjectHeap,
     foreign: &mut ForeignTable,
 )
     requires mine { heap.old.owner ≡ me }
-    requires can { CanReceiveOne me (as_loaded loaded.now) (holdings_of own.old heap.old foreign.old) }
+    requires here { told_block loaded.now.1 ≡ None }
+    requires can { CanReceiveOne me (as_loaded (lies_as (remembered from.now) loaded.now))
+        (holdings_of own.old heap.old foreign.old) }
     requires room { 1 ≤ foreign.old.spare }
     requires values { row_length (row_here loaded.now.1) ≤ foreign.old.spare_values }
     ensures counts { holdings_of own.new heap.new foreign.new
-        ≡ receive_one me (as_loaded loaded.now) (holdings_of own.old heap.old foreign.old) }
+        ≡ receive_one me (as_loaded (lies_as (remembered from.now) loaded.now))
+        (holdings_of own.old heap.old foreign.old) }
     ensures heap { (heap.new.owner ≡ heap.old.owner) × (heap.new.spare ≡ heap.old.spare) }
+    ensures blocks { heap.new.blocks ≡ heap.old.blocks }
+    ensures here { AllHere foreign.old → AllHere foreign.new }
     ensures room { foreign.old.spare ≤ foreign.new.spare + 1 }
     ensures values { let its = row_length (row_here loaded.now.1) in
         foreign.old.spare_values ≤ foreign.new.spare_values + its }
 {
     let thing = &loaded.0;
     if thing.owner() != me {
-        foreign.gain(*thing, &loaded.1, 1);
+        foreign.gain(*thing, &loaded.1, from, 1);
         return;
     }
     match thing {
@@ -62,11 +69,14 @@ pub fn receive_trace(
     ensures counts { holdings_of own.new heap.new foreign.new
         ≡ receive me (as_load load.now) (holdings_of own.old heap.old foreign.old) }
     ensures heap { (heap.new.owner ≡ heap.old.owner) × (heap.new.spare ≡ heap.old.spare) }
+    ensures blocks { heap.new.blocks ≡ heap.old.blocks }
+    ensures here { AllHere foreign.old → AllHere foreign.new }
     ensures room { foreign.old.spare ≤ foreign.new.spare + length load.now }
     ensures values { let its = values_of (as_load load.now) in
         foreign.old.spare_values ≤ foreign.new.spare_values + its }
 {
-    for loaded in load.as_slice() {
-        receive_thing(loaded, me, own, heap, foreign);
+    let (items, memory) = load.parts();
+    for loaded in items {
+        receive_thing(loaded, memory, me, own, heap, foreign);
     }
 }

@@ -26,7 +26,8 @@ pub fn count_values(load: &Load) -> Option<usize>
         MatchOption result (2 ^ 64 ≤ its) (λ count. count ≡ its) }
 {
     let mut count: usize = 0;
-    for loaded in load.as_slice() {
+    let (items, _) = load.parts();
+    for loaded in items {
         count = count.checked_add(length_told(&loaded.1))?;
     }
     Some(count)

@@ -10,6 +10,7 @@ use crate::seats::{Seated, seat_of};
 use letter_kinds::Letter;
 use orca_core::Orca;
 use orca_names::{ObjName, Value};
+use row_store::Lent;
 
 /// The arguments of an application letter; another letter has none.
 pub(crate) fn args_of(letter: &Letter) -> &[Value]
@@ -50,7 +51,8 @@ pub(crate) fn row_left<'a>(orca: &'a Orca<'_>, n: ObjName) -> &'a [Value]
         return &[];
     };
     match seat.cell.heap.row(n) {
-        Some(row) => row.as_slice(),
-        None => &[],
+        Lent::Here(values) => values,
+        Lent::Nothing => &[],
+        Lent::In(_) => unreachable!(),
     }
 }

@@ -1,6 +1,6 @@
-use Rattle.std.proofs.Common.{◌≡◌, ◌+◌, ◌-◌, drop, sym, ap, ◌∙◌, arith}
+use Rattle.std.proofs.Common.{◌≡◌, ◌+◌, ◌-◌, None, drop, sym, ap, ◌∙◌, arith}
 use Rattle.object_heap.specs.Heap.{Heap, with_new}
-use Rattle.actor_cell.proofs.Going.{with_new-cons, with_new-nil}
+use Rattle.actor_cell.proofs.Going.{nowhere, with_new-cons, with_new-nil}
 use Rattle.std.proofs.lemmas.List.{drop_all}
 use Rattle.trace_send.proofs.Steps.{rest_of}
 use Rattle.actor_cell.proofs.apply.make_all.Goals as goal
@@ -15,8 +15,8 @@ loop-row-preserved c =
     let next : c.make.new.self.next ≡ heap.next + 1 = ap (λ (h : Heap). h.next) c.make.ensures.made in
     let spare : c.make.new.self.spare ≡ heap.spare - 1 = ap (λ (h : Heap). h.spare) c.make.ensures.made in
     record {
-      heap = ap (with_new (drop (i + 1) made)) c.make.ensures.made ∙ with_new-cons row (drop (i + 1) made) heap
-          ∙ ap (λ xs. with_new xs heap) (sym rest) ∙ c.loop-row.invariant.heap;
+      heap = ap (with_new (drop (i + 1) made) (nowhere (drop (i + 1) made))) c.make.ensures.made ∙ with_new-cons row None (drop (i + 1) made) (nowhere (drop (i + 1) made)) heap
+          ∙ ap (λ xs. with_new xs (nowhere xs) heap) (sym rest) ∙ c.loop-row.invariant.heap;
       next = omega arith;
       spare = omega arith;
     }
@@ -25,4 +25,4 @@ pub returns : goal.returns
 returns c =
     let heap = c.loop-row.heap in
     let done = drop_all c.loop-row.row-index c.args.made.now c.loop-row-test.false in
-    sym (with_new-nil heap) ∙ ap (λ xs. with_new xs heap) (sym done) ∙ c.loop-row.invariant.heap
+    sym (with_new-nil heap) ∙ ap (λ xs. with_new xs (nowhere xs) heap) (sym done) ∙ c.loop-row.invariant.heap

@@ -1,48 +1,56 @@
-use Rattle.std.proofs.Common.{◌+◌, ◌<◌, get_or, length, drop, sym, ap, ◌∙◌, arith}
+use Rattle.std.proofs.Common.{◌+◌, drop, sym, ap, ◌∙◌, arith}
+use Rattle.row_store.specs.Memory.{remembered}
+use Rattle.row_store.specs.Told.{lies_as}
+use Rattle.foreign_table.specs.Table.{row_length}
 use Rattle.letter_kinds.specs.Load.{as_load, as_loaded}
+use Rattle.letter_kinds.proofs.Loads.{long_load}
 use Rattle.machine_rules.specs.Take.{learn}
 use Rattle.actor_cell.proofs.Learnt.{learn-cons, learn-nil}
 use Rattle.std.proofs.lemmas.List.{drop_all}
-use Rattle.trace_send.proofs.Steps.{rest_of, values_rest}
+use Rattle.trace_send.proofs.Steps.{row_at_hand, seen_here, seen_rest, values_rest, within_load}
 use Rattle.actor_cell.proofs.learning.learn_all.Goals as goal
 
 pub learn_one-requires-clause-room : goal.learn_one-requires-clause-room
 learn_one-requires-clause-room c =
-    let i = c.loop-brought.brought-index in
-    let inside : i < length c.args.rows.now = omega (arith, ap length c.as_slice-brought-items.ensures) in
-    let room = c.loop-brought.invariant.room in
-    omega arith
+    let inside = within_load (remembered c.parts.result.1.now) c.parts.result.0.now c.args.rows.now c.parts.ensures.load c.loop-brought.brought-index c.brought-item.result c.loop-brought-test.true c.brought-item.is in
+    omega (arith, inside, c.loop-brought.invariant.room)
+
+pub learn_one-requires-clause-here : goal.learn_one-requires-clause-here
+learn_one-requires-clause-here c =
+    seen_here (remembered c.parts.result.1.now) c.parts.result.0.now c.args.rows.now c.parts.ensures.load c.loop-brought.brought-index c.brought-item.result c.loop-brought-test.true c.brought-item.is c.parts.ensures.here
 
 pub learn_one-requires-clause-values : goal.learn_one-requires-clause-values
 learn_one-requires-clause-values c =
     let rows = c.args.rows.now in
+    let memory = remembered c.parts.result.1.now in
     let i = c.loop-brought.brought-index in
-    let e = c.brought-item.result in
-    let inside : i < length rows = omega (arith, ap length c.as_slice-brought-items.ensures) in
-    let rest = rest_of rows i e inside (c.brought-item.is ∙ ap (λ xs. get_or xs i e) c.as_slice-brought-items.ensures) in
-    omega (arith, values_rest rows i e rest, c.loop-brought.invariant.values)
+    let told = c.brought-item.result in
+    let rest = seen_rest memory c.parts.result.0.now rows c.parts.ensures.load i told c.loop-brought-test.true c.brought-item.is in
+    let here = seen_here memory c.parts.result.0.now rows c.parts.ensures.load i told c.loop-brought-test.true c.brought-item.is c.parts.ensures.here in
+    omega (arith, ap row_length (row_at_hand memory told.0 told.1 here), values_rest rows i (lies_as memory told) rest, c.loop-brought.invariant.values)
 
 pub loop-brought-preserved : goal.loop-brought-preserved
 loop-brought-preserved c =
     let rows = c.args.rows.now in
+    let memory = remembered c.parts.result.1.now in
     let me = c.args.me in
     let i = c.loop-brought.brought-index in
-    let e = c.brought-item.result in
+    let told = c.brought-item.result in
+    let e = lies_as memory told in
     let before = c.loop-brought.known.rows in
-    let inside : i < length rows = omega (arith, ap length c.as_slice-brought-items.ensures) in
-    let rest = rest_of rows i e inside (c.brought-item.is ∙ ap (λ xs. get_or xs i e) c.as_slice-brought-items.ensures) in
-    let room = c.loop-brought.invariant.room in
-    let less = c.learn_one.ensures.room in
-    let values = values_rest rows i e rest in
+    let rest = seen_rest memory c.parts.result.0.now rows c.parts.ensures.load i told c.loop-brought-test.true c.brought-item.is in
+    let here = seen_here memory c.parts.result.0.now rows c.parts.ensures.load i told c.loop-brought-test.true c.brought-item.is c.parts.ensures.here in
     record {
       rows = ap (learn me (as_load (drop (i + 1) rows))) c.learn_one.ensures.rows ∙ learn-cons me (as_loaded e) (as_load (drop (i + 1) rows)) before
           ∙ ap (λ xs. learn me (as_load xs) before) (sym rest) ∙ c.loop-brought.invariant.rows;
-      room = omega arith;
-      values = omega (arith, values, c.learn_one.ensures.values, c.loop-brought.invariant.values);
+      here = λ first. c.learn_one.ensures.here (c.loop-brought.invariant.here first);
+      room = omega (arith, c.learn_one.ensures.room, c.loop-brought.invariant.room);
+      values = omega (arith, ap row_length (row_at_hand memory told.0 told.1 here), values_rest rows i e rest, c.learn_one.ensures.values, c.loop-brought.invariant.values);
     }
 
-pub returns : goal.returns
-returns c =
+pub returns-clause-rows : goal.returns-clause-rows
+returns-clause-rows c =
     let now = c.loop-brought.known.rows in
-    let done = drop_all c.loop-brought.brought-index c.args.rows.now (omega (arith, ap length c.as_slice-brought-items.ensures)) in
+    let long = long_load (remembered c.parts.result.1.now) c.parts.result.0.now c.args.rows.now c.parts.ensures.load in
+    let done = drop_all c.loop-brought.brought-index c.args.rows.now (omega (arith, long, c.loop-brought-test.false)) in
     sym (learn-nil c.args.me now) ∙ ap (λ xs. learn c.args.me (as_load xs) now) (sym done) ∙ c.loop-brought.invariant.rows

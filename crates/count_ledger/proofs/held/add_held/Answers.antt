@@ -1,4 +1,4 @@
-use Rattle.std.proofs.Common.{◌≡◌, ◌+◌, ℕ, [], Option, option_copied, length, map, take, sym, ap, ◌∙◌, arith, refl}
+use Rattle.std.proofs.Common.{◌≡◌, ◌+◌, ℕ, [], Option, length, map, take, sym, ap, ◌∙◌, arith, refl}
 use Rattle.std.specs.FinMap as m
 use Rattle.std.proofs.Math.Seq.{take-length}
 use Rattle.std.proofs.lemmas.Option.{get_or_from_slice_get, slice_get_within}
@@ -38,9 +38,9 @@ add-requires-clause-room c =
     let entries = m.entries c.args.foreign.now.entries in
     let i = c.loop-i.i in
     let e : Thing × (ℕ × Option Row) =
-    (c.at-thing.result.0, (c.at-thing.result.1, option_copied c.at-thing.result.2)) in
-    let is = sym (get_or_from_slice_get entries i e e c.at-thing.ensures.entry) in
-    let inside = slice_get_within entries i e c.at-thing.ensures.entry in
+    (c.at-thing.result.0, (c.at-thing.result.1, c.at-thing.ensures.entry.0)) in
+    let is = sym (get_or_from_slice_get entries i e e c.at-thing.ensures.entry.1) in
+    let inside = slice_get_within entries i e c.at-thing.ensures.entry.1 in
     still_room Held c.args.sums.now c.loop-i.sums (held_by (take i entries)) c.loop-i.invariant
     (only e.0 e.1.0)
     (count_on c.args.foreign.now)
@@ -57,9 +57,9 @@ loop-i-preserved c =
     let entries = m.entries c.args.foreign.now.entries in
     let i = c.loop-i.i in
     let e : Thing × (ℕ × Option Row) =
-    (c.at-thing.result.0, (c.at-thing.result.1, option_copied c.at-thing.result.2)) in
-    let is = sym (get_or_from_slice_get entries i e e c.at-thing.ensures.entry) in
-    let inside = slice_get_within entries i e c.at-thing.ensures.entry in
+    (c.at-thing.result.0, (c.at-thing.result.1, c.at-thing.ensures.entry.0)) in
+    let is = sym (get_or_from_slice_get entries i e e c.at-thing.ensures.entry.1) in
+    let inside = slice_get_within entries i e c.at-thing.ensures.entry.1 in
     then_added Held c.args.sums.now c.loop-i.sums (held_by (take i entries)) c.loop-i.invariant
     (only e.0 e.1.0)
     (held_by (take (i + 1) entries)) c.add.new.sums c.add.ensures

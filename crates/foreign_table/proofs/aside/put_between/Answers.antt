@@ -2,7 +2,7 @@ use Rattle.std.proofs.Common.{◌≡◌, ◌+◌, ◌<◌, cond, drop, take, map
 use Rattle.std.specs.List.{insert}
 use Rattle.std.proofs.lemmas.List.{length-take-le}
 use Rattle.foreign_table.specs.declared.search.Entry.{Entry}
-use Rattle.foreign_table.specs.Entry.{as_row, pair_of}
+use Rattle.foreign_table.specs.Entry.{lying_of, pair_of}
 use Rattle.foreign_table.proofs.Rows.{all_of, lengths, next, past, put_both, put_line, stands}
 use Rattle.foreign_table.proofs.aside.put_between.Goals as goal
 
@@ -24,7 +24,7 @@ line_up-requires-clause-fits c =
     let i = c.args.i in
     let l : i < length es = omega (arith, c.args.held.now.ok.0) in
     let s = stands es vs c.requires.follow i e l c.index.ensures in
-    let y : Entry = record { thing = c.args.thing.now; count = c.new-count.result; first = e.first; len = length c.args.row.now } in
+    let y : Entry = record { thing = c.args.thing.now; count = c.new-count.result; first = e.first; place = c.place_of_row-place.result } in
     let put = c.insert.ensures.items ∙ ap (λ b. cond b (insert es i y) es) (c.insert.ensures.succeeds c.requires.place) in
     let behind : lengths (drop (i + 1) c.insert.new.self.items) ≡ lengths (drop i es) =
     (λ j. lengths (drop (next i j) (put j))) ∙ ap lengths (past (take i es) (drop i es) y i (length-take-le i es (omega (arith, l)))) in
@@ -39,11 +39,11 @@ returns-clause-pairs c =
     let row = c.args.row.now in
     let l : i < length es = omega (arith, c.args.held.now.ok.0) in
     let s = stands es vs c.requires.follow i e l c.index.ensures in
-    let y : Entry = record { thing = c.args.thing.now; count = c.new-count.result; first = e.first; len = length row } in
+    let y : Entry = record { thing = c.args.thing.now; count = c.new-count.result; first = e.first; place = c.place_of_row-place.result } in
     let put = c.insert.ensures.items ∙ ap (λ b. cond b (insert es i y) es) (c.insert.ensures.succeeds c.requires.place) in
     let line = c.line_up.ensures.items ∙ put_line es c.insert.new.self.items i (e.first + length row) y (omega (arith, l)) put in
-    (λ j. map (pair_of (c.put_values.ensures.items j)) (line j)) ∙ (put_both es vs row i y e.first refl refl c.requires.few s.before s.here).0
-    ∙ ap (λ n. insert (map (pair_of vs) es) i (c.args.thing.now, (n, as_row row))) c.new-count.ensures
+    (λ j. map (pair_of (c.put_values.ensures.items j)) (line j)) ∙ (put_both es vs row i y e.first refl c.place_of_row-place.ensures.len c.requires.few s.before s.here).0
+    ∙ (λ j. insert (map (pair_of vs) es) i (c.args.thing.now, (c.new-count.ensures j, lying_of row (c.place_of_row-place.ensures.block j))))
 
 pub returns-clause-follow : goal.returns-clause-follow
 returns-clause-follow c =
@@ -54,7 +54,7 @@ returns-clause-follow c =
     let row = c.args.row.now in
     let l : i < length es = omega (arith, c.args.held.now.ok.0) in
     let s = stands es vs c.requires.follow i e l c.index.ensures in
-    let y : Entry = record { thing = c.args.thing.now; count = c.new-count.result; first = e.first; len = length row } in
+    let y : Entry = record { thing = c.args.thing.now; count = c.new-count.result; first = e.first; place = c.place_of_row-place.result } in
     let put = c.insert.ensures.items ∙ ap (λ b. cond b (insert es i y) es) (c.insert.ensures.succeeds c.requires.place) in
     let line = c.line_up.ensures.items ∙ put_line es c.insert.new.self.items i (e.first + length row) y (omega (arith, l)) put in
-    rw line (rw c.put_values.ensures.items (put_both es vs row i y e.first refl refl c.requires.few s.before s.here).1)
+    rw line (rw c.put_values.ensures.items (put_both es vs row i y e.first refl c.place_of_row-place.ensures.len c.requires.few s.before s.here).1)

@@ -1,7 +1,7 @@
 use Rattle.std.proofs.Common.{◌<◌, ℕ, Bool, List, cond, get_or, length, ap, ◌∙◌, arith}
 use Rattle.orca_names.specs.declared.names.Value.{Value}
 use Rattle.foreign_table.proofs.Unheld.{unheld_past, unheld_step}
-use Rattle.foreign_table.specs.Table.{entries_in}
+use Rattle.foreign_table.specs.Table.{kept_in}
 use Rattle.foreign_table.proofs.table.count_unheld.Goals.{then-not-is_held, else-not-is_held}
 use Rattle.foreign_table.proofs.table.count_unheld.Goals as goal
 
@@ -12,7 +12,7 @@ loop-amount-preserved c =
     let e = c.amount-item.result in
     let i = c.loop-amount.amount-index in
     let inside : i < length things = omega (arith, ap length c.as_slice-amount-items.ensures) in
-    let step : (values : List Value) → _ = λ values. unheld_step (entries_in values held) things i e inside (c.amount-item.is ∙ ap (λ xs. get_or xs i e) c.as_slice-amount-items.ensures) in
+    let step : (values : List Value) → _ = λ values. unheld_step (kept_in values held) things i e inside (c.amount-item.is ∙ ap (λ xs. get_or xs i e) c.as_slice-amount-items.ensures) in
     let few = c.loop-amount.invariant.few in
     let more : Bool → ℕ = λ held. cond held 0 1 in
     elim c.if-not-is_held.branch [
@@ -26,5 +26,5 @@ loop-amount-preserved c =
 
 pub returns : goal.returns
 returns c = λ values.
-    let past = unheld_past (entries_in values c.args.held.now) c.args.things.now c.loop-amount.amount-index (omega (arith, ap length c.as_slice-amount-items.ensures, c.loop-amount.auto.amount-index-end)) in
+    let past = unheld_past (kept_in values c.args.held.now) c.args.things.now c.loop-amount.amount-index (omega (arith, ap length c.as_slice-amount-items.ensures, c.loop-amount.auto.amount-index-end)) in
     omega (arith, past, c.loop-amount.invariant.counted values)

@@ -13,7 +13,7 @@ pub returns : goal.returns
 returns c = λ t.
     let last = c.at-last.result in
     let low = is_below c.get.result c.made-next.result t in record {
-      later = last_below c.args.heap.now.next c.args.heap.now.rows (c.len-count.result - 1) (last.0.serial, (last.1.now, last.2))
-          (omega (arith, c.len-count.ensures.count, c.if-count-eq0.false)) c.at-last.ensures.entry (omega (arith, c.get.ensures, c.made-next.ensures));
+      later = last_below c.args.heap.now.next c.args.heap.now.rows (c.len-count.result - 1) (last.0.serial, (c.at-last.ensures.entry.0, last.2))
+          (omega (arith, c.len-count.ensures.count, c.if-count-eq0.false)) c.at-last.ensures.entry.1 (omega (arith, c.get.ensures, c.made-next.ensures));
       fits = omega (arith, c.if-made-next.false, c.made-next.ensures);
     }

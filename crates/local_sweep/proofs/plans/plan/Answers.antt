@@ -1,4 +1,4 @@
-use Rattle.std.proofs.Common.{◌≡◌, List, refl, subst, ap, ◌∙◌}
+use Rattle.std.proofs.Common.{◌≡◌, List, sym, subst, ap, ◌∙◌}
 use Rattle.std.specs.Prelude.{IfOk}
 use Rattle.std.specs.List.{list_any}
 use Rattle.std.specs.FinMap as m
@@ -6,22 +6,22 @@ use Rattle.orca_names.specs.Names.{is_thing}
 use Rattle.orca_names.specs.declared.names.Thing.{Thing}
 use Rattle.orca_names.specs.declared.names.Thing.TheVariants.{Obj}
 use Rattle.orca_names.specs.declared.names.Value.{Value}
-use Rattle.row_store.proofs.Standing.{none_stand}
+use Rattle.row_store.specs.Standing.{Stand}
 use Rattle.reach_walk.specs.Marks.{TellMarks, marks_of}
 use Rattle.object_heap.specs.Heap.{Heap}
 use Rattle.foreign_table.specs.Span.{IsSpan}
 use Rattle.foreign_table.specs.Table.{Table}
-use Rattle.known_rows.specs.Known.{names_known, row_known, row_known-within}
+use Rattle.known_rows.specs.Known.{block_known, names_known, row_known, row_known-within}
 use Rattle.known_rows.specs.Places.{place_in}
 use Rattle.local_sweep.specs.Marked.{is_marked, is_named, is_reached}
 use Rattle.local_sweep.specs.Plan.{object_named, plan_of}
 use Rattle.local_sweep.proofs.Naming.{named_marked}
 use Rattle.local_sweep.proofs.SamePlan.{plan_by_bits, same_plan}
 use Rattle.local_sweep.proofs.plans.plan.Goals as goal
+use Rattle.local_sweep.proofs.plans.plan.Goals.{else-are_few-via-then-are_few+else-lead_no_further, else-are_few-via-else-are_few}
 
--- no row lies in a block
 pub lead_no_further-requires : goal.lead_no_further-requires
-lead_no_further-requires g c = none_stand _ _ _ (λ n. refl)
+lead_no_further-requires g c = c.requires.stand
 
 pub returns-then-lead_no_further-clause-plan : goal.returns-then-lead_no_further-clause-plan
 returns-then-lead_no_further-clause-plan g c =
@@ -37,7 +37,17 @@ returns-then-lead_no_further-clause-plan g c =
     subst (λ p. IfOk c.plan_kept.result (λ plan. plan ≡ p)) plans c.plan_kept.ensures
 
 pub mark_bits-requires : goal.mark_bits-requires
-mark_bits-requires g c = none_stand _ _ _ (λ n. refl)
+mark_bits-requires g c =
+    let known = c.of-known.result in
+    let here = g.W.RowWords.known c.else-are_few.words in
+    let same : here ≡ g.W.RowWords.known c.args.words.now =
+    elim c.else-are_few.branch [
+      | else-are_few-via-then-are_few+else-lead_no_further w ↦ ap g.W.RowWords.known w.words-is ∙ w.lead_no_further.ensures.words.known
+      | else-are_few-via-else-are_few w ↦ ap g.W.RowWords.known w.words-is
+    ] in
+    subst (λ h. Stand (row_known h known.rows.foreign.now) (block_known h known.rows.foreign.now) here) (sym c.of-known.ensures.heap)
+    (subst (λ f. Stand (row_known c.args.heap.now f) (block_known c.args.heap.now f) here) (sym c.of-known.ensures.foreign)
+    (subst (Stand (row_known c.args.heap.now c.args.foreign.now) (block_known c.args.heap.now c.args.foreign.now)) (sym same) c.requires.stand))
 
 pub returns-clause-plan : goal.returns-clause-plan
 returns-clause-plan g c =
@@ -53,7 +63,7 @@ returns-clause-plan g c =
     let span : IsSpan c.args.heap.now.owner (m.keys c.args.foreign.now.entries) known.first known.end =
     subst (λ h. IsSpan h.owner (m.keys c.args.foreign.now.entries) known.first known.end) heap
     (subst (λ f. IsSpan known.rows.heap.now.owner (m.keys f.entries) known.first known.end) foreign known.span) in
-    let same = plan_by_bits bits (marks_of (row_known c.args.heap.now c.args.foreign.now) (names_known c.args.heap.now c.args.foreign.now) c.args.fields.now.values) c.args.heap.now c.args.foreign.now known.first known.end span c.requires tells in
+    let same = plan_by_bits bits (marks_of (row_known c.args.heap.now c.args.foreign.now) (names_known c.args.heap.now c.args.foreign.now) c.args.fields.now.values) c.args.heap.now c.args.foreign.now known.first known.end span c.requires.others tells in
     let planned : IfOk c.plan_kept-2.result (λ plan. plan ≡ plan_of (is_marked bits c.args.heap.now c.args.foreign.now) c.args.heap.now c.args.foreign.now) =
     subst (λ h. IfOk c.plan_kept-2.result (λ plan. plan ≡ plan_of (is_marked bits h c.args.foreign.now) h c.args.foreign.now)) heap
     (subst (λ f. IfOk c.plan_kept-2.result (λ plan. plan ≡ plan_of (is_marked bits known.rows.heap.now f) known.rows.heap.now f)) foreign c.plan_kept-2.ensures) in

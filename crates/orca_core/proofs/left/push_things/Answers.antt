@@ -31,8 +31,8 @@ loop-i-preserved c =
     let is = slice_get-get_or entries i d inside in
     let old = c.args.things.now.items ++ Actor heap.owner ∷ [] in
     let name = c.at-name.result.0 in
-    let entry : ℕ × (Row × ℕ) = (name.serial, (c.at-name.result.1.now, c.at-name.result.2)) in
-    let at = sym is ∙ c.at-name.ensures.entry in
+    let entry : ℕ × (Row × ℕ) = (name.serial, (c.at-name.ensures.entry.0, c.at-name.result.2)) in
+    let at = sym is ∙ c.at-name.ensures.entry.1 in
     let same = named_by name heap.owner (get_or entries i d) entry c.at-name.ensures.owner at refl in
     c.in_ok-push-2.ensures.items ∙ ap (λ xs. xs ++ Obj name ∷ []) c.loop-i.invariant
     ∙ append_assoc old (map object (take i entries)) (Obj name ∷ [])

@@ -7,7 +7,7 @@ use Rattle.picture_lines.proofs.tables.push_holds.Goals as goal
 
 pub loop-i-preserved : goal.loop-i-preserved
 loop-i-preserved c =
-    next_line holds_line (m.entries c.args.foreign.now.entries) c.loop-i.i _ _ _ _ c.at-thing.ensures.entry c.loop-i.invariant
+    next_line holds_line (m.entries c.args.foreign.now.entries) c.loop-i.i _ _ _ _ c.at-thing.ensures.entry.1 c.loop-i.invariant
     c.in_ok-push_hold.ensures
 
 pub returns : goal.returns

@@ -1,22 +1,25 @@
-use Rattle.std.proofs.Common.{◌≡◌, List, refl, subst, ◌∙◌}
+use Rattle.std.proofs.Common.{◌≡◌, List, sym, subst, ◌∙◌}
 use Rattle.std.specs.Prelude.{IfOk}
 use Rattle.std.specs.FinMap as m
 use Rattle.orca_names.specs.declared.names.Thing.{Thing}
 use Rattle.orca_names.specs.declared.names.Value.{Value}
-use Rattle.row_store.proofs.Standing.{none_stand}
+use Rattle.row_store.specs.Standing.{Stand}
 use Rattle.reach_walk.specs.Marks.{TellMarks, marks_of}
 use Rattle.object_heap.specs.Heap.{Heap}
 use Rattle.foreign_table.specs.Span.{IsSpan}
 use Rattle.foreign_table.specs.Table.{Table}
-use Rattle.known_rows.specs.Known.{names_known, row_known}
+use Rattle.known_rows.specs.Known.{block_known, names_known, row_known}
 use Rattle.known_rows.specs.Places.{place_in}
 use Rattle.local_sweep.proofs.SamePlan.{plan_by_bits}
 use Rattle.root_trace.specs.Own.{roots_in}
 use Rattle.root_trace.proofs.in_use.plan_in_use.Goals as goal
 
--- no row lies in a block
 pub mark_bits-requires : goal.mark_bits-requires
-mark_bits-requires g c = none_stand _ _ _ (λ n. refl)
+mark_bits-requires g c =
+    let known = c.of-rows.result.rows in
+    let here = g.W.RowWords.known c.args.words.now in
+    subst (λ h. Stand (row_known h known.foreign.now) (block_known h known.foreign.now) here) (sym c.of-rows.ensures.heap)
+    (subst (λ f. Stand (row_known c.args.heap.now f) (block_known c.args.heap.now f) here) (sym c.of-rows.ensures.foreign) c.requires.stand)
 
 pub returns-clause-plan : goal.returns-clause-plan
 returns-clause-plan g c =
@@ -34,5 +37,5 @@ returns-clause-plan g c =
     let span : IsSpan c.args.heap.now.owner (m.keys c.args.brought.now.entries) known.first known.end =
     subst (λ h. IsSpan h.owner (m.keys c.args.brought.now.entries) known.first known.end) heap
     (subst (λ f. IsSpan known.rows.heap.now.owner (m.keys f.entries) known.first known.end) brought known.span) in
-    let same = plan_by_bits bits (marks c.args.heap.now c.args.brought.now roots) c.args.heap.now c.args.brought.now known.first known.end span c.requires tells in
+    let same = plan_by_bits bits (marks c.args.heap.now c.args.brought.now roots) c.args.heap.now c.args.brought.now known.first known.end span c.requires.others tells in
     subst (λ p. IfOk c.plan_of_marks.result (λ plan. plan ≡ p)) same c.plan_of_marks.ensures

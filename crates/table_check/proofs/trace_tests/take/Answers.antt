@@ -1,6 +1,5 @@
 use Rattle.std.proofs.Common.{◌≢◌, not, eqb, sym, ap, subst, ◌∙◌, arith}
 use Rattle.orca_names.specs.Names.{owner_of}
-use Rattle.letter_kinds.specs.Load.{as_load}
 use Rattle.known_rows.specs.Holdings.{holdings_of}
 use Rattle.trace_send.specs.Can.{CanReceive}
 use Rattle.trace_send.proofs.Steps.{apart, held-is}
@@ -15,7 +14,7 @@ receive_trace-requires-clause-can c =
     let other : owner_of thing ≢ me = apart (owner_of thing) me
     (ap not (ap (λ a. eqb a me) (sym c.owner.ensures) ∙ sym c.eq.ensures ∙ c.if-eq.false)) in
     let held = held-is own c.args.heap.now foreign thing ∙ sym c.count.ensures.count in
-    subst (λ load. CanReceive me (as_load load) (holdings_of own c.args.heap.now foreign))
+    subst (λ load. CanReceive me load (holdings_of own c.args.heap.now foreign))
     (sym c.in-Ok.ensures) (
       record {
         own = λ same. absurd (other same);

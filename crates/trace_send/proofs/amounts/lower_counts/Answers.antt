@@ -34,6 +34,7 @@ loop-amount-preserved c =
           let can = subst (λ xs. CanLower c.args.me xs before) rest (c.loop-amount.invariant.can foreign) in
           subst (CanLower c.args.me (drop (i + 1) things)) (sym (c.lower_one.ensures.counts foreign)) can.1;
       owner = c.lower_one.ensures.owner ∙ c.loop-amount.invariant.owner;
+      blocks = c.lower_one.ensures.blocks ∙ c.loop-amount.invariant.blocks;
     }
 
 pub returns-clause-counts : goal.returns-clause-counts

@@ -11,4 +11,5 @@ invariant-loop-amount l = record {
       ≡ lower_all l.me l.things (holdings_of l.fn.own l.fn.heap foreign);
   can : (foreign : Table) → CanLower l.me (drop l.amount-index l.things) (holdings_of l.own l.heap foreign);
   owner : l.heap.owner ≡ l.fn.heap.owner;
+  blocks : l.heap.blocks ≡ l.fn.heap.blocks;
 }

@@ -1,5 +1,6 @@
 use Rattle.std.proofs.Common.{◌≡◌, ◌-◌, true, false, not, eqb, sym, ap, ◌∙◌, arith}
 use Rattle.orca_names.specs.Names.{owner_of}
+use Rattle.object_heap.specs.Heap.{Heap}
 use Rattle.known_rows.specs.Holdings.{holdings_of}
 use Rattle.trace_send.proofs.Steps.{alike, apart, set-actor-at, set-object-at}
 use Rattle.trace_send.proofs.Raising.{no_table, own_at_actor, own_at_object, lower_other, lower_own}
@@ -44,3 +45,6 @@ returns-in-Obj-clause-counts c = λ foreign.
     ap (λ heap. holdings_of c.args.own.now heap foreign) c.lower_object.ensures
     ∙ set-object-at c.args.own.now c.args.heap.now foreign (λ n. n - amount.1) amount.0 c.in-Obj.n c.in-Obj.is
     ∙ lower_own c.args.me amount (holdings_of c.args.own.now c.args.heap.now foreign) (alike (owner_of amount.0) c.args.me e)
+
+pub returns-in-Obj-clause-blocks : goal.returns-in-Obj-clause-blocks
+returns-in-Obj-clause-blocks c = ap (λ (h : Heap). h.blocks) c.lower_object.ensures

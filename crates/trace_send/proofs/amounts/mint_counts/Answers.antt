@@ -4,7 +4,8 @@ use Rattle.std.specs.FinMap as m
 use Rattle.letter_kinds.specs.Counting.{mint_all, mint_one}
 use Rattle.letter_kinds.specs.Holdings.{entry_row}
 use Rattle.object_heap.specs.Heap.{Heap}
-use Rattle.foreign_table.specs.Table.{count_unheld}
+use Rattle.foreign_table.specs.Table.{AllHere, block_at, count_unheld, entered}
+use Rattle.foreign_table.proofs.Here.{entered_here}
 use Rattle.foreign_table.proofs.Unheld.{room_first, room_left}
 use Rattle.ref_weights.specs.Limit.{count_limit}
 use Rattle.known_rows.specs.Holdings.{holdings_of}
@@ -44,7 +45,7 @@ loop-amount-preserved c =
     let rest = rest_of things i e inside (c.amount-item.is ∙ ap (λ xs. get_or xs i e) c.as_slice-amount-items.ensures) in
     let foreign = c.loop-amount.foreign in
     let room = subst (λ xs. count_unheld xs foreign.entries ≤ foreign.spare) rest c.loop-amount.invariant.room in
-    let left = room_left foreign e (drop (i + 1) things) room (λ count. count + e.1) (entry_row (m.get foreign.entries e.0)) in
+    let left = room_left foreign e (drop (i + 1) things) room (λ count. count + e.1) (entry_row (m.get foreign.entries e.0)) (block_at foreign.blocks e.0) in
     let step : (count : ℕ) (heap : Heap) → holdings_of count heap c.mint.new.self ≡ mint_one e (holdings_of count heap foreign) = λ count heap.
     ap (holdings_of count heap) c.mint.ensures ∙ sym (set-spent count heap foreign (λ n. n + e.1) e.0) in
     record {
@@ -55,11 +56,15 @@ loop-amount-preserved c =
       can = λ count heap.
           let can = subst (λ xs. CanMint xs (holdings_of count heap foreign)) rest (c.loop-amount.invariant.can count heap) in
           subst (CanMint (drop (i + 1) things)) (sym (step count heap)) can.1;
+      here = λ first.
+          let now = c.loop-amount.invariant.here first in
+          let row = entry_row (m.get foreign.entries e.0) in
+          subst AllHere (sym (c.mint.ensures ∙ ap (λ block. entered (λ n. n + e.1) e.0 row block foreign) (now e.0))) (entered_here (λ n. n + e.1) e.0 row foreign now);
       room = subst (λ t. count_unheld (drop (i + 1) things) t.entries ≤ t.spare) (sym c.mint.ensures) left;
     }
 
-pub returns : goal.returns
-returns c = λ count heap.
+pub returns-clause-counts : goal.returns-clause-counts
+returns-clause-counts c = λ count heap.
     let now = holdings_of count heap c.loop-amount.foreign in
     let done = drop_all c.loop-amount.amount-index c.args.things.now (omega (arith, ap length c.as_slice-amount-items.ensures)) in
     sym (mint_all-nil now) ∙ ap (λ xs. mint_all xs now) (sym done) ∙ c.loop-amount.invariant.counts count heap

@@ -34,6 +34,7 @@ loop-amount-preserved c =
           let can = subst (λ xs. CanRaise c.args.me xs before) rest (c.loop-amount.invariant.can foreign) in
           subst (CanRaise c.args.me (drop (i + 1) things)) (sym (c.raise_one.ensures.counts foreign)) can.1;
       owner = c.raise_one.ensures.owner ∙ c.loop-amount.invariant.owner;
+      blocks = c.raise_one.ensures.blocks ∙ c.loop-amount.invariant.blocks;
     }
 
 pub returns-clause-counts : goal.returns-clause-counts

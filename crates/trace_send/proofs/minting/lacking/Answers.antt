@@ -1,4 +1,4 @@
-use Rattle.std.proofs.Common.{◌≡◌, ◌==◌, Some, map, ◌∙◌, ap}
+use Rattle.std.proofs.Common.{◌==◌, map, ◌∙◌, ap}
 use Rattle.std.specs.List.{filter}
 use Rattle.orca_names.specs.Names.{owner_of}
 use Rattle.orca_names.specs.declared.names.Thing.{Thing}

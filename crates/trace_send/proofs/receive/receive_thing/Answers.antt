@@ -1,6 +1,11 @@
-use Rattle.std.proofs.Common.{not, eqb, ◌≢◌, ◌-◌, sym, ap, ◌∙◌}
+use Rattle.std.proofs.Common.{not, eqb, ◌≢◌, ◌+◌, ◌-◌, sym, ap, subst, ◌∙◌}
 use Rattle.orca_names.specs.Names.{owner_of}
 use Rattle.letter_kinds.specs.Load.{as_loaded}
+use Rattle.row_store.specs.Memory.{remembered}
+use Rattle.row_store.specs.Told.{lies_as, told_block, told_row}
+use Rattle.object_heap.specs.Heap.{Heap}
+use Rattle.foreign_table.specs.Table.{AllHere, entered}
+use Rattle.foreign_table.proofs.Here.{entered_here}
 use Rattle.known_rows.specs.Holdings.{holdings_of}
 use Rattle.trace_send.proofs.Steps.{apart, alike, fits-held, enough-actor, enough-object, counted-object, set-actor-at, set-object-at, receives_other, receives_own}
 use Rattle.trace_send.proofs.receive.receive_thing.Goals as goal
@@ -13,7 +18,7 @@ gain-requires-clause-fits c =
 pub returns-then-ne-clause-counts : goal.returns-then-ne-clause-counts
 returns-then-ne-clause-counts c =
     let other : owner_of c.args.loaded.now.0 ≢ c.args.me = apart (owner_of c.args.loaded.now.0) c.args.me (ap (λ a. not (eqb a c.args.me)) (sym c.owner.ensures) ∙ sym c.ne.ensures ∙ c.if-ne.true) in
-    ap (holdings_of c.args.own.now c.args.heap.now) c.gain.ensures ∙ receives_other c.args.me c.args.own.now c.args.heap.now c.args.foreign.now (as_loaded c.args.loaded.now) other
+    ap (holdings_of c.args.own.now c.args.heap.now) c.gain.ensures ∙ receives_other c.args.me c.args.own.now c.args.heap.now c.args.foreign.now (as_loaded (lies_as (remembered c.args.from.now) c.args.loaded.now)) (told_block c.args.loaded.now.1) other
 
 pub lower-requires : goal.lower-requires
 lower-requires c =
@@ -35,11 +40,21 @@ returns-in-Actor-clause-counts c =
     let same = alike (owner_of c.args.loaded.now.0) c.args.me (ap (λ a. not (eqb a c.args.me)) (sym c.owner.ensures) ∙ sym c.ne.ensures ∙ c.if-ne.false) in
     ap (λ n. holdings_of n c.args.heap.now c.args.foreign.now) c.lower.ensures
     ∙ set-actor-at c.args.own.now c.args.heap.now c.args.foreign.now (λ n. n - 1) c.args.loaded.now.0 c.in-Actor.field-0 c.in-Actor.is
-    ∙ receives_own c.args.me c.args.own.now c.args.heap.now c.args.foreign.now (as_loaded c.args.loaded.now) same
+    ∙ receives_own c.args.me c.args.own.now c.args.heap.now c.args.foreign.now (as_loaded (lies_as (remembered c.args.from.now) c.args.loaded.now)) same
 
 pub returns-in-Obj-clause-counts : goal.returns-in-Obj-clause-counts
 returns-in-Obj-clause-counts c =
     let same = alike (owner_of c.args.loaded.now.0) c.args.me (ap (λ a. not (eqb a c.args.me)) (sym c.owner.ensures) ∙ sym c.ne.ensures ∙ c.if-ne.false) in
     ap (λ heap. holdings_of c.args.own.now heap c.args.foreign.now) c.lower-in-Obj.ensures
     ∙ set-object-at c.args.own.now c.args.heap.now c.args.foreign.now (λ n. n - 1) c.args.loaded.now.0 c.in-Obj.n c.in-Obj.is
-    ∙ receives_own c.args.me c.args.own.now c.args.heap.now c.args.foreign.now (as_loaded c.args.loaded.now) same
+    ∙ receives_own c.args.me c.args.own.now c.args.heap.now c.args.foreign.now (as_loaded (lies_as (remembered c.args.from.now) c.args.loaded.now)) same
+
+pub returns-then-ne-clause-here : goal.returns-then-ne-clause-here
+returns-then-ne-clause-here c = λ here.
+    let told = c.args.loaded.now in
+    let row = told_row (remembered c.args.from.now) told.0 told.1 in
+    let foreign = c.args.foreign.now in
+    subst AllHere (sym (c.gain.ensures ∙ ap (λ block. entered (λ n. n + 1) told.0 row block foreign) c.requires.here)) (entered_here (λ n. n + 1) told.0 row foreign here)
+
+pub returns-in-Obj-clause-blocks : goal.returns-in-Obj-clause-blocks
+returns-in-Obj-clause-blocks c = ap (λ (h : Heap). h.blocks) c.lower-in-Obj.ensures

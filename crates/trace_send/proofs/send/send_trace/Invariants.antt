@@ -11,5 +11,7 @@ invariant-loop-loaded l = record {
   can : CanSend l.me (as_load (drop l.loaded-index l.load)) (holdings_of l.own l.heap l.foreign);
   owner : l.heap.owner ≡ l.fn.heap.owner;
   spare : l.heap.spare ≡ l.fn.heap.spare;
+  own_blocks : l.heap.blocks ≡ l.fn.heap.blocks;
+  held_blocks : l.foreign.blocks ≡ l.fn.foreign.blocks;
   room : l.foreign.spare ≡ l.fn.foreign.spare;
 }

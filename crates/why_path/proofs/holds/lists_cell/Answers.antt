@@ -23,8 +23,8 @@ loop-i-preserved c = λ k d l.
       | inl low ↦ c.loop-i.invariant k d low
       | inr high ↦
           let e : i ≡ k = omega arith in
-          let is = entry_thing cell i c.at-name.result.0 c.at-name.result.1.now c.at-name.result.2 d
-          c.at-name.ensures.entry c.at-name.ensures.owner in
+          let is = entry_thing cell i c.at-name.result.0 c.at-name.ensures.entry.0 c.at-name.result.2 d
+          c.at-name.ensures.entry.1 c.at-name.ensures.owner in
           subst (Contains (things_in c.args.reasons.now)) (is ∙ ap (λ j. get_or (things_of cell) (suc j) d) e)
           (c.has_line-in-loop-i.ensures.0 c.if-not-has_line-2.false)
     ]
@@ -36,7 +36,7 @@ returns-then-not-has_line-2 c =
     let name = c.at-name.result.0 in
     let within : i < m.len cell.heap.rows = omega (arith, c.loop-i-test.true, c.len-i-end.ensures.count) in
     not_all (Contains (things_in c.args.reasons.now)) (things_of cell) (suc i) (Obj name) (cell_length cell i within)
-    (entry_thing cell i name c.at-name.result.1.now c.at-name.result.2 (Obj name) c.at-name.ensures.entry c.at-name.ensures.owner)
+    (entry_thing cell i name c.at-name.ensures.entry.0 c.at-name.result.2 (Obj name) c.at-name.ensures.entry.1 c.at-name.ensures.owner)
     (not_so c.has_line-in-loop-i.ensures c.if-not-has_line-2.true)
 
 pub returns : goal.returns

@@ -5,6 +5,9 @@ use Rattle.letter_kinds.specs.Counting.{sweep}
 use Rattle.machine_rules.specs.Collect.{is_marked}
 use Rattle.actor_cell.specs.declared.sweeping.Sweep.{Sweep}
 use Rattle.actor_cell.specs.Cells.{as_cell}
+use Rattle.object_heap.specs.Heap as heaps
+use Rattle.foreign_table.specs.Table as tables
+use Rattle.actor_cell.proofs.Here.{all_left, forgotten_here, given_here}
 use Rattle.actor_cell.proofs.Swept.{swept_is, unused_rises, used_stay}
 use Rattle.actor_cell.proofs.cell.Cell.apply_collect.Goals as goal
 
@@ -24,6 +27,18 @@ returns-clause-cell c = λ trace is.
     let marked = is_marked trace s.heap.owner (as_cell s) in
     let holdings = c.apply.ensures.swept marked s.count (ap (λ (found : Sweep). found.plan) is) in
     let unused = c.as_slice.ensures ∙ ap (λ (found : Sweep). found.unused) is in
-    let known = c.forget.ensures ∙ (λ i. m.retain_keys s.known.rows (λ x. not (goes_back (unused i) x))) ∙ used_stay s trace in
+    let known = c.forget.ensures.rows ∙ (λ i. m.retain_keys s.known.rows (λ x. not (goes_back (unused i) x))) ∙ used_stay s trace in
     (λ i. record (as_cell s) { holdings = holdings i; known = c.forget.new.self.rows; dirty = false })
     ∙ swept_is s trace (sweep marked s.heap.owner (as_cell s).holdings) c.forget.new.self.rows known
+
+pub invariant_of-self : goal.invariant_of-self
+invariant_of-self c =
+    let s = c.args.self.now in
+    let found = c.args.found.now in
+    record {
+      here = record {
+        own = subst heaps.AllHere (sym c.apply.ensures.heap) (all_left found.plan.free s.heap s.here.own);
+        held = subst tables.AllHere (sym c.apply.ensures.foreign) (given_here found.plan.back s.foreign s.here.held);
+        brought = forgotten_here c.forget.new.self s.known (λ x. not (goes_back c.as_slice.result.now x)) c.forget.ensures.blocks s.here.brought;
+      };
+    }

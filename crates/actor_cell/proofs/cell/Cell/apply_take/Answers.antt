@@ -9,6 +9,7 @@ use Rattle.turn_rules.specs.Frames.{frame_for}
 use Rattle.machine_rules.specs.Take.{cell_after, learn}
 use Rattle.actor_cell.specs.Cells.{as_cell}
 use Rattle.actor_cell.specs.Takes.{CanTake}
+use Rattle.actor_cell.proofs.Here.{heap_here}
 use Rattle.actor_cell.proofs.cell.Cell.apply_take.Goals as goal
 
 pub returns-in-App : goal.returns-in-App
@@ -16,7 +17,7 @@ returns-in-App c =
     let s = as_cell c.args.self.now in
     let me = c.args.self.now.heap.owner in
     let counts = c.receive_trace.ensures.counts ∙ ap (λ a. receive a (as_load c.in-App.load) s.holdings) c.owner-me.ensures in
-    let known = c.learn_all.ensures ∙ ap (λ a. learn a (as_load c.in-App.rows) s.known) c.owner-me.ensures in
+    let known = c.learn_all.ensures.rows ∙ ap (λ a. learn a (as_load c.in-App.rows) s.known) c.owner-me.ensures in
     let frame = c.start_boxed.ensures ∙ ap (frame_for c.args.code.now s.kind c.in-App.behaviour) c.as_args.ensures in
     let cell = c.wake.ensures.0
     ∙ (λ i. record s { frame = frame i; holdings = counts i; known = known i; dirty = true; reported = false })
@@ -56,3 +57,36 @@ returns-in-Dec c =
     let cell = c.wake-in-Dec.ensures.0 ∙ (λ i. record s { holdings = counts i; dirty = true; reported = false })
     ∙ ap (λ l. cell_after c.args.code.now me (as_letter l) s) (sym c.in-Dec.is) in
     (cell, c.wake-in-Dec.ensures.1 ∙ c.lower_counts.ensures.owner)
+
+pub invariant_of-self : goal.invariant_of-self
+invariant_of-self c =
+    let s = c.args.self.now in
+    record {
+      here = record {
+        own = heap_here c.receive_trace.new.heap s.heap c.receive_trace.ensures.blocks s.here.own;
+        held = c.receive_trace.ensures.here s.here.held;
+        brought = c.learn_all.ensures.here s.here.brought;
+      };
+    }
+
+pub invariant_of-self-in-Inc : goal.invariant_of-self-in-Inc
+invariant_of-self-in-Inc c =
+    let s = c.args.self.now in
+    record {
+      here = record {
+        own = heap_here c.raise_counts.new.heap s.heap c.raise_counts.ensures.blocks s.here.own;
+        held = s.here.held;
+        brought = s.here.brought;
+      };
+    }
+
+pub invariant_of-self-in-Dec : goal.invariant_of-self-in-Dec
+invariant_of-self-in-Dec c =
+    let s = c.args.self.now in
+    record {
+      here = record {
+        own = heap_here c.lower_counts.new.heap s.heap c.lower_counts.ensures.blocks s.here.own;
+        held = s.here.held;
+        brought = s.here.brought;
+      };
+    }

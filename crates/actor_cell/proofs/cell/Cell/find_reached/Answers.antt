@@ -1,17 +1,26 @@
-use Rattle.std.proofs.Common.{◌≡◌, ◌∙◌, refl, subst}
+use Rattle.std.proofs.Common.{◌≡◌, ◌∙◌, subst}
 use Rattle.std.specs.Prelude.{OnOk}
 use Rattle.row_store.proofs.Standing.{none_stand}
 use Rattle.reach_walk.specs.Marks.{marks_of}
 use Rattle.letter_kinds.specs.Holdings.{known_objects, row_of, with_made}
 use Rattle.known_rows.specs.Holdings.{holdings_of}
+use Rattle.actor_cell.proofs.Here.{none_read}
 use Rattle.actor_cell.proofs.Posting.{things_same}
 use Rattle.actor_cell.proofs.cell.Cell.find_reached.Goals as goal
 
 pub find_flat-requires : goal.find_flat-requires
-find_flat-requires g c = none_stand _ _ _ (λ n. refl)
+find_flat-requires g c =
+    let s = c.args.self.now in
+    let rows = c.rows_with-rows.result in
+    let read = c.rows_with-rows.ensures in
+    none_stand _ _ _ (none_read rows.made.now rows.known.heap.now s.heap rows.known.foreign.now s.foreign read.0 read.1 s.here.own s.here.held)
 
 pub of-requires : goal.of-requires
-of-requires g c = none_stand _ _ _ (λ n. refl)
+of-requires g c =
+    let s = c.args.self.now in
+    let rows = c.rows_with-rows.result in
+    let read = c.rows_with-rows.ensures in
+    none_stand _ _ _ (none_read rows.made.now rows.known.heap.now s.heap rows.known.foreign.now s.foreign read.0 read.1 s.here.own s.here.held)
 
 pub returns-clause-things : goal.returns-clause-things
 returns-clause-things g c =

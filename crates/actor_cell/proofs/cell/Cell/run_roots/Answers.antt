@@ -1,4 +1,4 @@
-use Rattle.std.proofs.Common.{◌≡◌, Option, ap, refl, subst, ◌∙◌}
+use Rattle.std.proofs.Common.{◌≡◌, Option, ap, sym, subst, ◌∙◌}
 use Rattle.std.specs.Prelude.{IfOk}
 use Rattle.std.specs.List.{find}
 use Rattle.orca_names.specs.declared.names.ObjName.{ObjName}
@@ -15,12 +15,17 @@ use Rattle.machine_rules.specs.Cell.{row_by}
 use Rattle.machine_rules.specs.Go.{needed, setting_of}
 use Rattle.actor_cell.specs.Cells.{as_cell}
 use Rattle.foreign_table.specs.Table.{holds_in}
+use Rattle.foreign_table.specs.Table as tables
+use Rattle.known_rows.proofs.Standing.{none_known}
 use Rattle.actor_cell.proofs.Brought.{found_roots}
 use Rattle.actor_cell.proofs.Needing.{needs_is}
 use Rattle.actor_cell.proofs.cell.Cell.run_roots.Goals as goal
 
 pub of-rows-requires : goal.of-rows-requires
-of-rows-requires g c = none_stand _ _ _ (λ n. refl)
+of-rows-requires g c =
+    let s = c.args.self.now in
+    let brought = c.held_or-foreign.result.now in
+    none_stand _ _ _ (none_known s.heap brought s.here.own (subst tables.AllHere (sym c.held_or-foreign.ensures) s.here.brought))
 
 pub returns-clause-halt : goal.returns-clause-halt
 returns-clause-halt g c =

@@ -1,6 +1,7 @@
-use Rattle.std.proofs.Common.{◌≡◌, ◌+◌, None, sym, ap, ◌∙◌}
+use Rattle.std.proofs.Common.{◌≡◌, ◌+◌, None, sym, ap, subst, ◌∙◌}
 use Rattle.orca_names.specs.declared.names.Thing.TheVariants.{Actor}
-use Rattle.foreign_table.specs.Table.{entered}
+use Rattle.foreign_table.specs.Table.{AllHere, entered}
+use Rattle.foreign_table.proofs.Here.{entered_here}
 use Rattle.known_rows.specs.Holdings.{holdings_of}
 use Rattle.trace_send.proofs.Steps.{set-held}
 use Rattle.actor_cell.specs.Cells.{as_cell}
@@ -9,7 +10,18 @@ use Rattle.actor_cell.proofs.cell.Cell.settle_new.Goals as goal
 pub returns-clause-cell : goal.returns-clause-cell
 returns-clause-cell c =
     let s = c.args.self.now in
-    let held : c.gain.new.self ≡ entered (λ n. n + c.args.weight) (Actor c.args.name) None s.foreign =
-    c.gain.ensures ∙ ap (λ w. entered (λ n. n + w) (Actor c.args.name) None s.foreign) c.from.ensures in
-    let counts = ap (holdings_of s.count s.heap) held ∙ sym (set-held s.count s.heap s.foreign (λ n. n + c.args.weight) (Actor c.args.name) None) in
+    let held : c.gain.new.self ≡ entered (λ n. n + c.args.weight) (Actor c.args.name) None None s.foreign =
+    c.gain.ensures ∙ ap (λ w. entered (λ n. n + w) (Actor c.args.name) None None s.foreign) c.from.ensures in
+    let counts = ap (holdings_of s.count s.heap) held ∙ sym (set-held s.count s.heap s.foreign (λ n. n + c.args.weight) (Actor c.args.name) None None) in
     λ i. record (as_cell s) { frame = c.put.ensures i; holdings = counts i }
+
+pub invariant_of-self : goal.invariant_of-self
+invariant_of-self c =
+    let s = c.args.self.now in
+    record {
+      here = record {
+        own = s.here.own;
+        held = subst AllHere (sym c.gain.ensures) (entered_here (λ n. n + c.from.result) (Actor c.args.name) None s.foreign s.here.held);
+        brought = s.here.brought;
+      };
+    }

@@ -1,25 +1,29 @@
-use Rattle.std.proofs.Common.{zero-add, ◌≡◌, ℕ, Option, ◌+◌, ◌-◌, length, get_or, map, set, sym, refl, ap, subst, ◌∙◌, arith}
+use Rattle.std.proofs.Common.{zero-add, ◌≡◌, ℕ, ◌+◌, ◌-◌, get_or, map, set, sym, ap, subst, ◌∙◌, arith}
 use Rattle.std.specs.Prelude.{vec_len, vec_capacity}
 use Rattle.std.specs.FinMap as m
 use Rattle.orca_names.specs.Names.{thing_cmp}
-use Rattle.letter_kinds.specs.Holdings.{Row}
 use Rattle.plain_list.specs.Rising.{IsAt, IsGap}
-use Rattle.row_store.specs.Told.{row_here}
-use Rattle.foreign_table.specs.Entry.{amount_of, as_row, pair_of, row_in}
-use Rattle.foreign_table.specs.Table.{Table, count_on, entered, entries_in, row_length}
-use Rattle.foreign_table.proofs.Entries.{as_row_length, blank, count_there, entered_absent, entered_present, found, itself, key_found, new_entries, none_at, place_within, row_in_length, set_entries}
+use Rattle.row_store.specs.Memory.{remembered}
+use Rattle.row_store.specs.Told.{Lying, told_block, told_row}
+use Rattle.foreign_table.specs.Entry.{amount_of, lies_in, lying_of, pair_of}
+use Rattle.foreign_table.specs.Table.{count_on, entered, kept_in, length_aside, seen_by, values_at}
+use Rattle.foreign_table.proofs.Entries.{blank, found, itself, key_found, new_entries, none_at, place_within, set_entries}
 use Rattle.foreign_table.proofs.Rows.{stands}
+use Rattle.foreign_table.proofs.Seen.{count_seen, entered_absent, entered_present, entry_none, put_recalled, values_there}
+use Rattle.foreign_table.proofs.Gained.{aside_told, row_told, told_room}
 use Rattle.foreign_table.proofs.table.ForeignTable.gain.Goals as goal
 
 pub raise-requires-clause-fits : goal.raise-requires-clause-fits
 raise-requires-clause-fits c d =
     let s = c.self.inside in
     let es = s.held.items in
+    let vs = s.values.items in
+    let x = c.args.thing in
     let i = c.in-Ok.i in
-    let p = subst (λ es. IsAt thing_cmp (map amount_of es) c.args.thing i) c.as_slice.ensures.value c.in-Ok.ensures in
+    let p = subst (λ es. IsAt thing_cmp (map amount_of es) x i) c.as_slice.ensures.value c.in-Ok.ensures in
     let e = get_or es i d in
-    let here = count_there s.values.items es c.args.thing i e e c.self.invariant.0 p (itself s.values.items es c.self.invariant.0 c.args.thing i p d) refl in
-    let seen = ap (λ t. count_on t c.args.thing) c.self.view_is in
+    let here = count_seen (remembered s.memory) 0 0 (kept_in vs es) x (e.count, lies_in vs e) (found vs es c.self.invariant.0 x i p d) in
+    let seen = ap (λ t. count_on t x) c.self.view_is in
     omega (arith, c.requires.fits, here, seen)
 
 pub invariant_of-self : goal.invariant_of-self
@@ -30,20 +34,27 @@ invariant_of-self c =
     let x = c.args.thing in
     let i = c.in-Ok.i in
     let h = c.self.invariant.0 in
-    let row = c.told_values.result.now in
+    let l : Lying = lying_of c.told_values-row.result.now c.block-block.result in
     let new = c.raise.new in
+    let memory = remembered s.memory in
+    let later = remembered c.remember.new.memory in
     let p = subst (λ es. IsAt thing_cmp (map amount_of es) x i) c.as_slice.ensures.value c.in-Ok.ensures in
     let e = get_or es i (blank x) in
-    let v : ℕ × Option Row = (e.count + c.args.by, as_row row) in
+    let v : ℕ × Lying = (e.count + c.args.by, l) in
     let pairs = c.raise.ensures.pairs (blank x) ∙ ap (λ k. set (map (pair_of vs) es) i (k, v)) (key_found vs es h x i p (blank x)) in
-    ((set_entries vs new.values.items es new.held.items h x i v p pairs).0, c.raise.ensures.follow)
+    let put = set_entries vs new.values.items es new.held.items h x i v p pairs in (
+      put.0,
+      c.raise.ensures.follow,
+      put_recalled memory later x c.remember.ensures.others 0 0 0 0 (kept_in vs es) _ v.0 l put.1 c.self.invariant.2 (told_room (remembered c.args.from.now) later x c.args.told.now c.block-block.result c.block-block.ensures c.requires.told c.remember.ensures.here),
+    )
 
 pub put_entry-requires-clause-place : goal.put_entry-requires-clause-place
 put_entry-requires-clause-place c =
     let s = c.self.inside in
-    let p = subst (λ es. IsGap thing_cmp (map amount_of es) c.args.thing c.in-Err.i) c.as_slice.ensures.value c.in-Err.ensures in
-    let none = sym (ap (λ t. m.get t.entries c.args.thing) c.self.view_is) ∙ none_at s.values.items s.held.items c.self.invariant.0 c.args.thing c.in-Err.i p in
-    let room = c.requires.room none in
+    let x = c.args.thing in
+    let p = subst (λ es. IsGap thing_cmp (map amount_of es) x c.in-Err.i) c.as_slice.ensures.value c.in-Err.ensures in
+    let none = none_at s.values.items s.held.items c.self.invariant.0 x c.in-Err.i p in
+    let room = c.requires.room (sym (ap (λ t. m.get t.entries x) c.self.view_is) ∙ entry_none (remembered s.memory) 0 0 (kept_in s.values.items s.held.items) x none) in
     let spare = ap (λ t. t.spare) c.self.view_is in
     omega (arith, s.held.ok)
 
@@ -52,9 +63,14 @@ invariant_of-self-in-Err c =
     let s = c.self.inside in
     let x = c.args.thing in
     let new = c.put_entry.new in
-    let p = subst (λ es. IsGap thing_cmp (map amount_of es) x c.in-Err.i) c.as_slice.ensures.value c.in-Err.ensures in (
-      (new_entries s.values.items new.values.items s.held.items new.held.items c.self.invariant.0 x c.in-Err.i (c.args.by, as_row c.told_values-in-Err.result.now) p c.put_entry.ensures.pairs).0,
+    let l : Lying = lying_of c.told_values-row.result.now c.block-block.result in
+    let memory = remembered s.memory in
+    let later = remembered c.remember.new.memory in
+    let p = subst (λ es. IsGap thing_cmp (map amount_of es) x c.in-Err.i) c.as_slice.ensures.value c.in-Err.ensures in
+    let put = new_entries s.values.items new.values.items s.held.items new.held.items c.self.invariant.0 x c.in-Err.i (c.args.by, l) p c.put_entry.ensures.pairs in (
+      put.0,
       c.put_entry.ensures.follow,
+      put_recalled memory later x c.remember.ensures.others 0 0 0 0 (kept_in s.values.items s.held.items) _ c.args.by l put.1 c.self.invariant.2 (told_room (remembered c.args.from.now) later x c.args.told.now c.block-block.result c.block-block.ensures c.requires.told c.remember.ensures.here),
     )
 
 pub returns-in-Ok : goal.returns-in-Ok
@@ -65,31 +81,31 @@ returns-in-Ok c =
     let x = c.args.thing in
     let i = c.in-Ok.i in
     let h = c.self.invariant.0 in
-    let row = c.told_values.result.now in
-    let told = row_here c.args.told.now in
+    let row = c.told_values-row.result.now in
+    let l : Lying = lying_of row c.block-block.result in
     let new = c.raise.new in
+    let memory = remembered s.memory in
+    let later = remembered c.remember.new.memory in
+    let told = told_row (remembered c.args.from.now) x c.args.told.now in
+    let block = told_block c.args.told.now in
+    let change : ℕ → ℕ = λ count. count + c.args.by in
     let p = subst (λ es. IsAt thing_cmp (map amount_of es) x i) c.as_slice.ensures.value c.in-Ok.ensures in
     let e = get_or es i (blank x) in
-    let v : ℕ × Option Row = (e.count + c.args.by, as_row row) in
+    let v : ℕ × Lying = (e.count + c.args.by, l) in
     let pairs = c.raise.ensures.pairs (blank x) ∙ ap (λ k. set (map (pair_of vs) es) i (k, v)) (key_found vs es h x i p (blank x)) in
-    let entries = (set_entries vs new.values.items es new.held.items h x i v p pairs).1 ∙ ap (λ r. m.insert (entries_in vs es) x (e.count + c.args.by, r)) c.told_values.ensures.row in
-    let stood = row_in_length vs e (stands es vs c.self.invariant.1 i e (place_within es x i p) (itself vs es h x i p (blank x))).within in
-    let length_told : row_length told ≡ length row = sym (ap row_length c.told_values.ensures.row) ∙ as_row_length row in
-    let t : Table = record {
-      spare = vec_capacity s.held - vec_len s.held;
-      spare_values = vec_capacity s.values - vec_len s.values;
-      entries = entries_in vs es;
-    } in
-    let u : Table = record {
-      spare = vec_capacity new.held - vec_len new.held;
-      spare_values = vec_capacity new.values - vec_len new.values;
-      entries = entries_in new.values.items new.held.items;
-    } in
-    let spare : u.spare ≡ t.spare = omega (arith, c.raise.ensures.len, c.raise.ensures.capacity) in
-    let values : u.spare_values ≡ t.spare_values + row_length (row_in vs e) - row_length told =
-    omega (arith, c.raise.ensures.values_len (blank x), c.raise.ensures.values_capacity, stood, length_told, s.values.ok, new.values.ok) in
-    entered_present (λ count. count + c.args.by) told x t (e.count, row_in vs e) u (found vs es h x i p (blank x)) spare values entries
-    ∙ ap (entered (λ count. count + c.args.by) x told) c.self.view_is
+    let put = (set_entries vs new.values.items es new.held.items h x i v p pairs).1 in
+    let a = vec_capacity s.held - vec_len s.held in
+    let b = vec_capacity s.values - vec_len s.values in
+    let there = found vs es h x i p (blank x) in
+    let stood = values_there memory a b vs es h x e there (stands es vs c.self.invariant.1 i e (place_within es x i p) (itself vs es h x i p (blank x))).within in
+    let aside = aside_told (remembered c.args.from.now) x c.args.told.now row c.told_values-row.ensures.row c.told_values-row.ensures.block in
+    let spare : vec_capacity new.held - vec_len new.held ≡ a = omega (arith, c.raise.ensures.len, c.raise.ensures.capacity) in
+    let values : vec_capacity new.values - vec_len new.values ≡ b + values_at (seen_by memory a b (kept_in vs es)) x - length_aside told block =
+    omega (arith, c.raise.ensures.values_len (blank x), c.raise.ensures.values_capacity, stood, aside, s.values.ok, new.values.ok) in
+    entered_present memory later x c.remember.ensures.others a b _ _ (kept_in vs es) _ change told block l
+    (row_told (remembered c.args.from.now) later x c.args.told.now row c.block-block.result c.told_values-row.ensures.row c.block-block.ensures c.remember.ensures.here) c.block-block.ensures
+    (e.count, lies_in vs e) there put spare values
+    ∙ ap (entered change x told block) c.self.view_is
 
 pub returns-in-Err : goal.returns-in-Err
 returns-in-Err c =
@@ -99,25 +115,24 @@ returns-in-Err c =
     let x = c.args.thing in
     let i = c.in-Err.i in
     let h = c.self.invariant.0 in
-    let row = c.told_values-in-Err.result.now in
-    let told = row_here c.args.told.now in
+    let row = c.told_values-row.result.now in
+    let l : Lying = lying_of row c.block-block.result in
     let new = c.put_entry.new in
+    let memory = remembered s.memory in
+    let later = remembered c.remember.new.memory in
+    let told = told_row (remembered c.args.from.now) x c.args.told.now in
+    let block = told_block c.args.told.now in
+    let change : ℕ → ℕ = λ count. count + c.args.by in
     let p = subst (λ es. IsGap thing_cmp (map amount_of es) x i) c.as_slice.ensures.value c.in-Err.ensures in
-    let entries = (new_entries vs new.values.items es new.held.items h x i (c.args.by, as_row row) p c.put_entry.ensures.pairs).1
-    ∙ (λ j. m.insert (entries_in vs es) x (sym (zero-add c.args.by) j, c.told_values-in-Err.ensures.row j)) in
-    let length_told : row_length told ≡ length row = sym (ap row_length c.told_values-in-Err.ensures.row) ∙ as_row_length row in
-    let t : Table = record {
-      spare = vec_capacity s.held - vec_len s.held;
-      spare_values = vec_capacity s.values - vec_len s.values;
-      entries = entries_in vs es;
-    } in
-    let u : Table = record {
-      spare = vec_capacity new.held - vec_len new.held;
-      spare_values = vec_capacity new.values - vec_len new.values;
-      entries = entries_in new.values.items new.held.items;
-    } in
-    let spare : u.spare ≡ t.spare - 1 = omega (arith, c.put_entry.ensures.len, c.put_entry.ensures.capacity, s.held.ok, new.held.ok) in
-    let values : u.spare_values ≡ t.spare_values - row_length told =
-    omega (arith, c.put_entry.ensures.values_len, c.put_entry.ensures.values_capacity, length_told, s.values.ok, new.values.ok) in
-    entered_absent (λ count. count + c.args.by) told x t u (none_at vs es h x i p) spare values entries
-    ∙ ap (entered (λ count. count + c.args.by) x told) c.self.view_is
+    let none = none_at vs es h x i p in
+    let put = (new_entries vs new.values.items es new.held.items h x i (c.args.by, l) p c.put_entry.ensures.pairs).1 ∙ ap (λ n. m.insert (kept_in vs es) x (n, l)) (sym (zero-add c.args.by)) in
+    let a = vec_capacity s.held - vec_len s.held in
+    let b = vec_capacity s.values - vec_len s.values in
+    let aside = aside_told (remembered c.args.from.now) x c.args.told.now row c.told_values-row.ensures.row c.told_values-row.ensures.block in
+    let spare : vec_capacity new.held - vec_len new.held ≡ a - 1 = omega (arith, c.put_entry.ensures.len, c.put_entry.ensures.capacity, s.held.ok, new.held.ok) in
+    let values : vec_capacity new.values - vec_len new.values ≡ b - length_aside told block =
+    omega (arith, c.put_entry.ensures.values_len, c.put_entry.ensures.values_capacity, aside, s.values.ok, new.values.ok) in
+    entered_absent memory later x c.remember.ensures.others a b _ _ (kept_in vs es) _ change told block l
+    (row_told (remembered c.args.from.now) later x c.args.told.now row c.block-block.result c.told_values-row.ensures.row c.block-block.ensures c.remember.ensures.here) c.block-block.ensures
+    none put spare values
+    ∙ ap (entered change x told block) c.self.view_is

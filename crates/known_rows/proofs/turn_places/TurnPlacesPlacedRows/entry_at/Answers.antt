@@ -1,9 +1,8 @@
-use Rattle.std.proofs.Common.{◌≡◌, ◌+◌, ◌-◌, ◌<◌, [], None, Some, length, sym, subst, ap, ◌∙◌, arith}
+use Rattle.std.proofs.Common.{◌≡◌, ◌+◌, ◌-◌, ◌<◌, [], Some, length, sym, subst, ap, ◌∙◌, arith}
 use Rattle.std.proofs.lemmas.List.{get_or_default}
-use Rattle.row_store.specs.Lent.{IsLent}
-use Rattle.row_store.specs.Told.{thing_block}
 use Rattle.known_rows.specs.Places.{placed_things}
-use Rattle.known_rows.proofs.Later.{lower, lower_within, not_made, row_of_made, turn_count, turn_kept, turn_moved, turn_new, turn_place}
+use Rattle.row_store.specs.Lent.{IsLent}
+use Rattle.known_rows.proofs.Later.{lower, lower_within, made_lies, not_made, turn_count, turn_kept, turn_moved, turn_new, turn_place}
 use Rattle.known_rows.proofs.turn_places.TurnPlacesPlacedRows.entry_at.Goals as goal
 
 pub returns-then-at-self-clause-thing : goal.returns-then-at-self-clause-thing
@@ -18,10 +17,9 @@ returns-then-at-self-clause-row c = λ l.
     let s = c.args.self.now in
     let all = lower_within s.known.rows.heap.now s.known.rows.foreign.now s.made.now s.later in
     let inside : c.args.at < length (placed_things s.known.rows.heap.now s.known.rows.foreign.now) = omega (arith, s.start, c.if-at-self.true) in
-    subst (λ r. IsLent r (thing_block (λ _. None) c.entry_at.result.0) c.entry_at.result.1)
-    (sym (not_made s.known.rows.heap.now s.known.rows.foreign.now s.made.now s.later c.entry_at.result.0 c.args.at (returns-then-at-self-clause-thing c l)
-    (λ i l e. omega (arith, s.start, c.if-at-self.true))))
-    (c.entry_at.ensures.row inside)
+    let same = not_made s.known.rows.heap.now s.known.rows.foreign.now s.made.now s.later c.entry_at.result.0 c.args.at (returns-then-at-self-clause-thing c l)
+    (λ i l e. omega (arith, s.start, c.if-at-self.true)) in
+    subst (λ lies. IsLent lies.row lies.block c.entry_at.result.1) (sym same) (c.entry_at.ensures.row inside)
 
 pub returns-then-i-self-clause-thing : goal.returns-then-i-self-clause-thing
 returns-then-i-self-clause-thing c = λ _.
@@ -35,10 +33,9 @@ pub returns-then-i-self-clause-row : goal.returns-then-i-self-clause-row
 returns-then-i-self-clause-row c = λ _.
     let s = c.args.self.now in
     let i = c.args.at - s.first in
-    let own = row_of_made s.known.rows.heap.now s.known.rows.foreign.now s.made.now s.later c.made_thing.result i c.if-i-self.true c.made_thing.ensures
-    ∙ ap Some (get_or_default s.made.now i [] c.index-self-i.result c.if-i-self.true) in
-    let block = ap (thing_block (λ _. None)) c.made_thing.ensures in
-    (own ∙ ap Some (sym c.as_slice.ensures.value), block, c.as_slice.ensures.room.0, c.as_slice.ensures.room.1)
+    let lies = made_lies s.known.rows.heap.now s.known.rows.foreign.now s.made.now s.later c.made_thing.result i c.if-i-self.true c.made_thing.ensures in
+    let row = ap (λ l. l.row) lies ∙ ap Some (get_or_default s.made.now i [] c.index-self-i.result c.if-i-self.true ∙ sym c.as_slice.ensures.value) in
+    (row, ap (λ l. l.block) lies, c.as_slice.ensures.room.0, c.as_slice.ensures.room.1)
 
 pub returns-clause-thing : goal.returns-clause-thing
 returns-clause-thing c = λ l.
@@ -52,7 +49,6 @@ pub returns-clause-row : goal.returns-clause-row
 returns-clause-row c = λ l.
     let s = c.args.self.now in
     let all = turn_count s.known.rows.heap.now s.known.rows.foreign.now s.made.now s.later in
-    subst (λ r. IsLent r (thing_block (λ _. None) c.entry_at-2.result.0) c.entry_at-2.result.1)
-    (sym (not_made s.known.rows.heap.now s.known.rows.foreign.now s.made.now s.later c.entry_at-2.result.0 c.args.at (returns-clause-thing c l)
-    (λ i l e. omega (arith, s.start, c.if-at-self.false, c.if-i-self.false))))
-    (c.entry_at-2.ensures.row (omega (arith, l, c.if-at-self.false, c.if-i-self.false)))
+    let same = not_made s.known.rows.heap.now s.known.rows.foreign.now s.made.now s.later c.entry_at-2.result.0 c.args.at (returns-clause-thing c l)
+    (λ i l e. omega (arith, s.start, c.if-at-self.false, c.if-i-self.false)) in
+    subst (λ lies. IsLent lies.row lies.block c.entry_at-2.result.1) (sym same) (c.entry_at-2.ensures.row (omega (arith, l, c.if-at-self.false, c.if-i-self.false)))

@@ -12,7 +12,7 @@ returns c = λ serial is.
     let heap = c.args.self.now.rows.heap.now in
     let n = c.at-n.result.0 in
     let key : slice_get (m.keys heap.rows) c.args.i ≡ Some n.serial =
-    slice_get-map (λ e. e.0) (m.entries heap.rows) c.args.i ∙ ap (option_map (λ e. e.0)) c.at-n.ensures.entry in
+    slice_get-map (λ e. e.0) (m.entries heap.rows) c.args.i ∙ ap (option_map (λ e. e.0)) c.at-n.ensures.entry.1 in
     let both : Some n.serial ≡ Some serial = sym key ∙ is in
     let same : n.serial ≡ serial = cc in
     let name : n ≡ object_named heap.owner serial = λ t. record { owner = c.at-n.ensures.owner t; serial = same t } in
