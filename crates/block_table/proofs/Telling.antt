@@ -47,9 +47,6 @@ told_set bs free count later k b told h counted = record {
 
 -- ---- one block more, which is free
 
-pub told_none : AreTold [] [] 0
-told_none = record { at = λ k. refl; long = omega arith; few = omega arith; counted = refl }
-
 -- places more, all of them off
 pub told_grown : (bs : Blocks) (free : List Bool) (count more : ℕ) → AreTold bs free count
     → AreTold bs (free ++ replicate more false) count

@@ -47,7 +47,6 @@ module _ (rows memory : ObjName → Option (List Value)) (blocks : ObjName → O
       let its = same_row e.0 e.1 (ap (λ (l : Thing × Lying). l.1.block) first ∙ ap (thing_block blocks) (sym (ap (λ (l : Thing × Lying). l.0) first))) in
       λ j. (e.0, record { row = its j; block = told_block e.1 }) ∷ lie_same items things others j
 
--- where no row lies in a block, what is told is at hand
 -- the row, if it lies in no block
 row_outside : Option (List Value) → Option ℕ → Option (List Value)
 row_outside row None = row

@@ -36,15 +36,6 @@ abbrev pub told_of : List Value → Option ℕ → Told
 told_of row None = Here row
 told_of row (Some block) = In block
 
--- a thing with its row
-abbrev pub as_loaded : (ObjName → Option (List Value)) → Thing × Told → Thing × Option (List Value)
-as_loaded rows e = (e.0, told_row rows e.0 e.1)
-
--- things with their rows
-abbrev pub as_load : (ObjName → Option (List Value)) → List (Thing × Told)
-    → List (Thing × Option (List Value))
-as_load rows load = map (as_loaded rows) load
-
 -- the blocks of things, by the names of objects: an actor has none
 abbrev pub thing_block : (ObjName → Option ℕ) → Thing → Option ℕ
 thing_block blocks (Actor a) = None
