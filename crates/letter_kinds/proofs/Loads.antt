@@ -1,18 +1,11 @@
 -- Loads by what is told in them.
-use Rattle.std.proofs.Common.{◌≡◌, ◌<◌, ℕ, List, [], ◌∷◌, Option, get_or, length, refl, sym, ap, ◌∙◌}
+use Rattle.std.proofs.Common.{◌≡◌, ◌<◌, ℕ, List, Option, get_or, length, sym, ap, ◌∙◌}
 use Rattle.std.proofs.lemmas.List.{get_or-map, length-map}
 use Rattle.orca_names.specs.declared.names.ObjName.{ObjName}
 use Rattle.orca_names.specs.declared.names.Thing.{Thing}
 use Rattle.orca_names.specs.declared.names.Value.{Value}
-use Rattle.row_store.specs.Told as told
 use Rattle.row_store.specs.Told.{Lying, lie_as, lies_as}
 use Rattle.row_store.specs.declared.told.Told.{Told}
-use Rattle.letter_kinds.specs.Load.{as_load}
-
-pub load_told : (rows : ObjName → Option (List Value)) (items : List (Thing × Told))
-    → as_load (lie_as rows items) ≡ told.as_load rows items
-load_told rows [] = refl
-load_told rows (e ∷ items) = ap (λ load. told.as_loaded rows e ∷ load) (load_told rows items)
 
 -- a thing that is told, in the load that is seen
 module _ (rows : ObjName → Option (List Value)) (items : List (Thing × Told)) (load : List (Thing × Lying)) (is : lie_as rows items ≡ load) where

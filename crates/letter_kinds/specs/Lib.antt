@@ -6,3 +6,4 @@ pub mod Detector
 pub mod Holdings
 pub mod Reports
 pub mod Sums
+pub mod Telling

@@ -3,6 +3,7 @@
 ghost use Rattle.std.specs.Prelude.{◌≡◌, ◌↔◌, ◌≤◌, ◌<◌, ◌+◌, ◌++◌, ◌∷◌, [], drop, length, option_map, slice_get, IsOk, IsTrue, OnOk, Some};
 ghost use Rattle.std.specs.Option.{option_copied};
 ghost use Rattle.letter_kinds.specs.Letters.{as_letter};
+ghost use Rattle.letter_kinds.specs.Telling.{brought_in};
 ghost use Rattle.mail_rows.specs.Mail.{behind};
 
 use crate::queue::LetterQueue;
@@ -40,7 +41,8 @@ fn reserve_behind(
     alloc: Global,
     n: usize,
 ) -> Result<(), NoMemory>
-    ensures letters { (behind rest.new).letters ≡ (behind rest.old).letters }
+    ensures letters { ((behind rest.new).letters ≡ (behind rest.old).letters)
+        × ((behind rest.new).brought ≡ (behind rest.old).brought) }
     ensures kept { (behind rest.old).spare ≤ (behind rest.new).spare }
     ensures ok { OnOk result (n ≤ (behind rest.new).spare) }
     ensures enough { 1 ≤ n → n ≤ (behind rest.old).spare → IsOk result }
@@ -60,6 +62,7 @@ fn reserve_behind(
 fn push_behind(rest: &mut Option<Box<LetterQueue>>, letter: Letter)
     requires { 1 ≤ (behind rest.old).spare }
     ensures letters { (behind rest.new).letters ≡ (behind rest.old).letters ++ as_letter letter ∷ [] }
+    ensures brought { (behind rest.new).brought ≡ (behind rest.old).brought ++ brought_in letter ∷ [] }
     ensures spare { (behind rest.new).spare + 1 ≡ (behind rest.old).spare }
 {
     match rest {
@@ -72,7 +75,9 @@ fn push_behind(rest: &mut Option<Box<LetterQueue>>, letter: Letter)
 #[inline(never)]
 fn draw_up(first: &mut Option<Letter>, rest: &mut Option<Box<LetterQueue>>)
     ensures first { option_map as_letter first.new ≡ slice_get (behind rest.old).letters 0 }
-    ensures others { (behind rest.new).letters ≡ drop 1 (behind rest.old).letters }
+    ensures brought { option_map brought_in first.new ≡ slice_get (behind rest.old).brought 0 }
+    ensures others { ((behind rest.new).letters ≡ drop 1 (behind rest.old).letters)
+        × ((behind rest.new).brought ≡ drop 1 (behind rest.old).brought) }
     ensures spare { (behind rest.new).spare + length (behind rest.new).letters
         ≡ (behind rest.old).spare + length (behind rest.old).letters }
 {
@@ -85,7 +90,7 @@ fn draw_up(first: &mut Option<Letter>, rest: &mut Option<Box<LetterQueue>>)
 impl MailRow {
     /// No letter waits. It takes no memory.
     pub fn new(alloc: Global) -> MailRow
-        ensures { result.letters ≡ [] }
+        ensures { (result.letters ≡ []) × (result.brought ≡ []) }
     {
         MailRow {
             first: None,
@@ -101,6 +106,7 @@ impl MailRow {
     #[inline(always)]
     pub fn reserve(&mut self, n: usize) -> Result<(), NoMemory>
         ensures letters { self.new.letters ≡ self.old.letters }
+        ensures brought { self.new.brought ≡ self.old.brought }
         ensures kept { self.old.spare ≤ self.new.spare }
         ensures ok { OnOk result (n ≤ self.new.spare) }
         ensures enough { n ≤ self.old.spare → IsOk result }
@@ -121,6 +127,7 @@ impl MailRow {
     pub fn push(&mut self, letter: Letter)
         requires { 1 ≤ self.old.spare }
         ensures letters { self.new.letters ≡ self.old.letters ++ as_letter letter ∷ [] }
+        ensures brought { self.new.brought ≡ self.old.brought ++ brought_in letter ∷ [] }
         ensures spare { self.new.spare + 1 ≡ self.old.spare }
     {
         if self.first.is_none() {
@@ -134,7 +141,9 @@ impl MailRow {
     #[inline(always)]
     pub fn take(&mut self) -> Option<Letter>
         ensures first { option_map as_letter result ≡ slice_get self.old.letters 0 }
-        ensures others { self.new.letters ≡ drop 1 self.old.letters }
+        ensures brought { option_map brought_in result ≡ slice_get self.old.brought 0 }
+        ensures others { (self.new.letters ≡ drop 1 self.old.letters)
+            × (self.new.brought ≡ drop 1 self.old.brought) }
         ensures spare { self.new.spare + length self.new.letters
             ≡ self.old.spare + length self.old.letters }
     {
@@ -148,7 +157,8 @@ impl MailRow {
     /// The first letter; `None` exactly where no letter waits.
     #[inline(always)]
     pub fn front(&self) -> Option<&Letter>
-        ensures { option_map as_letter (option_copied result) ≡ slice_get self.now.letters 0 }
+        ensures first { option_map as_letter (option_copied result) ≡ slice_get self.now.letters 0 }
+        ensures brought { option_map brought_in (option_copied result) ≡ slice_get self.now.brought 0 }
     {
         self.first.as_ref()
     }
