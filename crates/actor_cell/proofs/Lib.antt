@@ -12,3 +12,4 @@ pub mod Registers
 pub mod Reporting
 pub mod Swept
 pub mod Telling
+pub mod Tells

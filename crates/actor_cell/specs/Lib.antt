@@ -10,3 +10,4 @@ pub mod Outs
 pub mod Pushing
 pub mod Sweeps
 pub mod Takes
+pub mod Tells

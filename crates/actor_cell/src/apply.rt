@@ -1,6 +1,6 @@
 // What was found of a turn is done.
 
-ghost use Rattle.std.specs.Prelude.{◌≡◌, ◌+◌, ◌<◌, ◌≤◌, ◌^◌, IsSome, None, OnOk, Some, length, map};
+ghost use Rattle.std.specs.Prelude.{◌≡◌, ◌+◌, ◌<◌, ◌≤◌, ◌^◌, [], IsSome, None, OnOk, Some, length, map};
 ghost use Rattle.turn_rules.specs.declared.act.Frame.{Frame as frame_of_rules};
 ghost use Rattle.letter_kinds.specs.Counting.{send};
 ghost use Rattle.letter_kinds.specs.Load.{as_load};
@@ -10,6 +10,8 @@ ghost use Rattle.actor_cell.specs.Cells.{IsCellOf, IsSame, as_cell};
 ghost use Rattle.actor_cell.specs.Finding.{HasRoomToMove};
 ghost use Rattle.actor_cell.specs.Goes.{CanMove, cell_by, cell_kept, new_entries, out_of};
 ghost use Rattle.actor_cell.specs.Moves.{act_in};
+ghost use Rattle.letter_kinds.specs.Telling.{TellsOnly};
+ghost use Rattle.actor_cell.specs.Tells.{Tells};
 
 use crate::cell::Cell;
 use crate::turning::{Doing, Turned};
@@ -51,9 +53,10 @@ impl Cell {
     // A letter with this load is sent.
     fn send(&mut self, load: &Load)
         requires { CanSend self.old.heap.owner (as_load load.now) (as_cell self.old).holdings }
-        ensures { let me = self.old.heap.owner in
+        ensures cell { let me = self.old.heap.owner in
             let h = send me (as_load load.now) (as_cell self.old).holdings in
             IsCellOf me (record (as_cell self.old) { holdings = h }) self.new }
+        ensures told { TellsOnly (Tells self.old) [] (Tells self.new) }
     {
         let me = self.heap.owner();
         send_trace(load, me, &mut self.count, &mut self.heap, &mut self.foreign);
@@ -67,6 +70,7 @@ impl Cell {
         ensures cell { IsCellOf self.old.heap.owner
             (cell_kept turn.now self.old.frame (as_cell self.old)) self.new }
         ensures foreign { self.new.foreign ≡ self.old.foreign }
+        ensures told { TellsOnly (Tells self.old) [] (Tells self.new) }
     {
         make_all(&mut self.heap, turn.made());
         self.fields.copy_from(turn.fields());
@@ -79,6 +83,7 @@ impl Cell {
     pub fn reserve_go(&mut self, turn: &Turn, found: &Turned) -> Result<(), NoMemory>
         ensures same { IsSame self.new self.old }
         ensures room { OnOk result (HasRoomToMove turn.now (act_in found.now) self.new) }
+        ensures told { TellsOnly (Tells self.old) [] (Tells self.new) }
     {
         self.heap.reserve(turn.made().len())?;
         reserve_entries(&mut self.foreign, found)
@@ -98,6 +103,7 @@ impl Cell {
             ≡ cell_by me (as_cell self.old) frame turn.now found.now.place (act_in found.now) }
         ensures owner { self.new.heap.owner ≡ self.old.heap.owner }
         ensures room { IsSome (out_of (act_in found.now)).made → 0 < self.new.foreign.spare }
+        ensures told { TellsOnly (Tells self.old) [] (Tells self.new) }
     {
         match found.doing {
             Doing::Post {

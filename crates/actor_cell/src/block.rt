@@ -1,8 +1,10 @@
 // Block: an actor with nothing to do reports (MAC, OOPSLA 2013).
 
-ghost use Rattle.std.specs.Prelude.{◌≡◌, true, IfOk};
+ghost use Rattle.std.specs.Prelude.{◌≡◌, [], true, IfOk};
 ghost use Rattle.actor_cell.specs.Cells.{IsCellOf, as_cell};
 ghost use Rattle.actor_cell.specs.Outs.{report_of};
+ghost use Rattle.letter_kinds.specs.Telling.{TellsOnly};
+ghost use Rattle.actor_cell.specs.Tells.{Tells};
 
 use crate::cell::Cell;
 use block_report::report;
@@ -23,8 +25,9 @@ impl Cell {
 
     /// It reported.
     pub fn apply_block(&mut self)
-        ensures { IsCellOf self.old.heap.owner
+        ensures cell { IsCellOf self.old.heap.owner
             (record (as_cell self.old) { reported = true }) self.new }
+        ensures told { TellsOnly (Tells self.old) [] (Tells self.new) }
     {
         self.reported = true;
     }

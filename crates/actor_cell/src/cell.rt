@@ -1,6 +1,6 @@
 // The cell of an actor.
 
-ghost use Rattle.std.specs.Prelude.{◌≡◌, ◌+◌, ◌<◌, IsSome, None};
+ghost use Rattle.std.specs.Prelude.{◌≡◌, ◌+◌, ◌<◌, [], IsSome, None};
 ghost use Rattle.std.specs.FinMap as m;
 ghost use Rattle.orca_names.specs.declared.names.Thing.TheVariants.{Actor as actor_thing};
 ghost use Rattle.foreign_table.specs.Table.{count_on};
@@ -44,11 +44,14 @@ pub struct Cell {
 
 impl Cell {
     ghost use Rattle.actor_cell.specs.Cells.{IsCellOf, as_cell, settled};
+    ghost use Rattle.letter_kinds.specs.Telling.{TellsNothing, TellsOnly};
+    ghost use Rattle.actor_cell.specs.Tells.{Tells};
 
     /// The cell of the first actor, which nobody holds. It takes no memory.
     #[inline(always)]
     pub fn first(alloc: Global, code: &Checked) -> Cell
-        ensures { IsCellOf 0 (first_cell code.now) result }
+        ensures cell { IsCellOf 0 (first_cell code.now) result }
+        ensures told { TellsNothing (Tells result) }
     {
         Cell::fresh(alloc, code, ActorName(0), 0, 0)
     }
@@ -58,7 +61,8 @@ impl Cell {
     #[inline(always)]
     pub fn fresh(alloc: Global, code: &Checked, me: ActorName, kind: u32, count: u64) -> Cell
         requires { count < count_limit }
-        ensures { IsCellOf me (clean_cell code.now kind count) result }
+        ensures cell { IsCellOf me (clean_cell code.now kind count) result }
+        ensures told { TellsNothing (Tells result) }
     {
         let mut own = OwnCount::new();
         own.raise(count);
@@ -89,6 +93,7 @@ impl Cell {
         requires fits { count_on self.old.foreign (actor_thing name) + weight < count_limit }
         ensures cell { as_cell self.new ≡ settled weight register name (as_cell self.old) }
         ensures owner { self.new.heap.owner ≡ self.old.heap.owner }
+        ensures told { TellsOnly (Tells self.old) [] (Tells self.new) }
     {
         self.frame.put(register, Value::Actor(name));
         self.foreign.gain(

@@ -1,11 +1,13 @@
 // Collect: an idle actor frees what its fields do not reach (Orca, OOPSLA 2017).
 
-ghost use Rattle.std.specs.Prelude.{◌≡◌, IfOk};
+ghost use Rattle.std.specs.Prelude.{◌≡◌, [], IfOk};
 ghost use Rattle.orca_names.specs.declared.trace.Trace.{Trace as tracing};
 ghost use Rattle.orca_names.specs.declared.trace.Trace.TheVariants.{Deep as deep, Roots as roots};
 ghost use Rattle.actor_cell.specs.Cells.{as_cell};
 ghost use Rattle.row_store.specs.Words.{SameWords};
 ghost use Rattle.actor_cell.specs.Sweeps.{IsSweep, KnowsOthersOnly, sweep_of, swept};
+ghost use Rattle.letter_kinds.specs.Telling.{TellsOnly};
+ghost use Rattle.actor_cell.specs.Tells.{Tells};
 
 use crate::cell::Cell;
 use crate::sweeping::Sweep;
@@ -67,6 +69,7 @@ impl Cell {
         ensures cell { (trace : tracing) → found.now ≡ sweep_of trace self.old
             → as_cell self.new ≡ swept trace self.old.heap.owner (as_cell self.old) }
         ensures owner { self.new.heap.owner ≡ self.old.heap.owner }
+        ensures told { TellsOnly (Tells self.old) [] (Tells self.new) }
     {
         apply(&found.plan, &mut self.heap, &mut self.foreign);
         self.known.forget(found.unused.as_slice());

@@ -8,6 +8,8 @@ ghost use Rattle.row_store.specs.Told.{lies_as, row_here, told_block};
 ghost use Rattle.row_table.specs.Table.{AllKnownHere};
 ghost use Rattle.machine_rules.specs.Take.{learn};
 ghost use Rattle.trace_send.specs.Room.{values_of};
+ghost use Rattle.letter_kinds.specs.Telling.{TellsOnly};
+ghost use Rattle.actor_cell.specs.Tells.{BroughtTells};
 
 use letter_kinds::Load;
 use orca_names::{ActorName, Thing};
@@ -22,6 +24,8 @@ fn learn_one(known: &mut RowTable, me: ActorName, brought: &(Thing, Told), from:
     ensures rows { let its = as_loaded (lies_as (remembered from.now) brought.now) in
         known.new.rows ≡ learn me (its ∷ []) known.old.rows }
     ensures here { AllKnownHere known.old → AllKnownHere known.new }
+    ensures told { let its = lies_as (remembered from.now) brought.now in
+        TellsOnly (BroughtTells known.old) (its ∷ []) (BroughtTells known.new) }
     ensures room { known.old.spare ≤ known.new.spare + 1 }
     ensures values { let its = row_length (row_here brought.now.1) in
         known.old.spare_values ≤ known.new.spare_values + its }
@@ -37,6 +41,7 @@ pub(crate) fn learn_all(known: &mut RowTable, me: ActorName, rows: &Load)
     requires values { values_of (as_load rows.now) ≤ known.old.spare_values }
     ensures rows { known.new.rows ≡ learn me (as_load rows.now) known.old.rows }
     ensures here { AllKnownHere known.old → AllKnownHere known.new }
+    ensures told { TellsOnly (BroughtTells known.old) rows.now (BroughtTells known.new) }
 {
     let (items, memory) = rows.parts();
     for brought in items {

@@ -1,10 +1,12 @@
 // Take: an actor without a frame takes a letter.
 
-ghost use Rattle.std.specs.Prelude.{◌≡◌, if◌then◌else◌, None, OnOk, Some, false, true};
+ghost use Rattle.std.specs.Prelude.{◌≡◌, if◌then◌else◌, [], None, OnOk, Some, false, true};
 ghost use Rattle.letter_kinds.specs.Letters.{as_letter};
 ghost use Rattle.machine_rules.specs.Take.{cell_after, note_of};
 ghost use Rattle.actor_cell.specs.Cells.{IsCellOf, IsSame, as_cell};
 ghost use Rattle.actor_cell.specs.Takes.{CanTake, HasRoomFor};
+ghost use Rattle.letter_kinds.specs.Telling.{TellsOnly, all_brought, brought_in};
+ghost use Rattle.actor_cell.specs.Tells.{Tells as CellTells};
 
 use crate::cell::Cell;
 use crate::learning::learn_all;
@@ -20,8 +22,9 @@ use turn_step::start_boxed;
 impl Cell {
     // It has something to do, and did not report that it is blocked.
     fn wake(&mut self)
-        ensures { IsCellOf self.old.heap.owner
+        ensures cell { IsCellOf self.old.heap.owner
             (record (as_cell self.old) { dirty = true; reported = false }) self.new }
+        ensures told { TellsOnly (CellTells self.old) [] (CellTells self.new) }
     {
         self.dirty = true;
         self.reported = false;
@@ -50,6 +53,7 @@ impl Cell {
     pub fn reserve_take(&mut self, letter: &Letter, spare: &mut SpareFrame) -> Result<(), NoMemory>
         ensures same { IsSame self.new self.old }
         ensures room { OnOk result (HasRoomFor (as_letter letter.now) self.new) }
+        ensures told { TellsOnly (CellTells self.old) [] (CellTells self.new) }
     {
         match letter {
             Letter::App {
@@ -72,8 +76,9 @@ impl Cell {
         requires idle { self.old.frame ≡ None }
         requires can { CanTake self.old.heap.owner (as_letter letter.now) (as_cell self.old).holdings }
         requires room { HasRoomFor (as_letter letter.now) self.old }
-        ensures { let me = self.old.heap.owner in
+        ensures cell { let me = self.old.heap.owner in
             IsCellOf me (cell_after code.now me (as_letter letter.now) (as_cell self.old)) self.new }
+        ensures told { TellsOnly (CellTells self.old) (all_brought (brought_in letter.now)) (CellTells self.new) }
     {
         let me = self.heap.owner();
         match letter {

@@ -3,6 +3,7 @@
 ghost use Rattle.std.specs.Prelude.{◌≡◌, IsSome, None, OnOk};
 ghost use Rattle.letter_kinds.specs.Letters.{App as app, as_letter};
 ghost use Rattle.letter_kinds.specs.Load.{as_load};
+ghost use Rattle.letter_kinds.specs.Telling.{brought_in};
 ghost use Rattle.actor_cell.specs.Awaiting.{awaited_by};
 
 use behaviour_code::Name;
@@ -142,6 +143,7 @@ impl Turned {
         requires { IsSome self.old.room }
         ensures letter { as_letter result
             ≡ app behaviour self.old.args (as_load self.old.load) (as_load self.old.rows) }
+        ensures brought { brought_in result ≡ record { load = self.old.load; rows = self.old.rows } }
         ensures awaited { self.new.awaited ≡ self.old.awaited }
     {
         let Some(mut args) = self.room.take() else {

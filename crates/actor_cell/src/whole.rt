@@ -14,6 +14,8 @@ ghost use Rattle.actor_cell.specs.Moves.{act_in};
 ghost use Rattle.actor_cell.specs.Outs.{IsRoomFor, as_out, left_behind, noting, report_of, returning};
 ghost use Rattle.actor_cell.specs.Sweeps.{KnowsOthersOnly, swept};
 ghost use Rattle.actor_cell.specs.Takes.{CanTake};
+ghost use Rattle.letter_kinds.specs.Telling.{TellsOnly, all_brought, brought_in};
+ghost use Rattle.actor_cell.specs.Tells.{Tells};
 
 use crate::cell::Cell;
 use crate::letters::{decs_of, letter_room};
@@ -99,6 +101,7 @@ impl Cell {
         ensures back { IfErr result (λ back. back ≡ letter) }
         ensures same { OnErr result (as_cell self.new ≡ as_cell self.old) }
         ensures owner { self.new.heap.owner ≡ self.old.heap.owner }
+        ensures told { TellsOnly (Tells self.old) (all_brought (brought_in letter)) (Tells self.new) }
     {
         let Ok(mut notes) = note_room(alloc, self.reported) else {
             return Err(letter);
@@ -141,6 +144,7 @@ impl Cell {
         ensures room { IfOk result (λ out. IsSome out.made → 0 < self.new.foreign.spare) }
         ensures same { OnErr result (as_cell self.new ≡ as_cell self.old) }
         ensures owner { self.new.heap.owner ≡ self.old.heap.owner }
+        ensures told { TellsOnly (Tells self.old) [] (Tells self.new) }
         ensures words { SameWords W.known W.places W.beside words.old words.new }
     {
         let options = Options { weight, trace };
@@ -173,6 +177,7 @@ impl Cell {
             ≡ returning (by_owner (given_back marked (as_cell self.old).holdings))) }
         ensures same { OnErr result (as_cell self.new ≡ as_cell self.old) }
         ensures owner { self.new.heap.owner ≡ self.old.heap.owner }
+        ensures told { TellsOnly (Tells self.old) [] (Tells self.new) }
         ensures words { SameWords W.known W.places W.beside words.old words.new }
     {
         let found = self.find_collect(alloc, trace, words)?;
@@ -216,6 +221,7 @@ impl Cell {
             OnOk result (as_cell self.new ≡ record before { reported = true }) }
         ensures same { OnErr result (as_cell self.new ≡ as_cell self.old) }
         ensures owner { self.new.heap.owner ≡ self.old.heap.owner }
+        ensures told { TellsOnly (Tells self.old) [] (Tells self.new) }
     {
         let mut notes = Listed::new(alloc);
         notes.push(self.report(alloc)?)?;

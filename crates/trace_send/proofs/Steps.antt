@@ -22,7 +22,7 @@ use Rattle.row_store.specs.declared.told.Told.TheVariants.{Nothing, Here, In}
 use Rattle.letter_kinds.proofs.Loads.{long_load, seen_at}
 use Rattle.letter_kinds.proofs.Counts.{cond_eq, cond_ne}
 use Rattle.object_heap.specs.Heap.{Heap, Has, counted}
-use Rattle.foreign_table.specs.Table.{Table, count_on, entered, row_length}
+use Rattle.foreign_table.specs.Table.{Table, count_on, entered, length_aside, row_length}
 use Rattle.foreign_table.specs.Table as tables
 use Rattle.known_rows.specs.Holdings.{holdings_of}
 use Rattle.trace_send.specs.Can.{CanSendOne}
@@ -120,7 +120,21 @@ row_at_hand rows x Nothing here = refl
 row_at_hand rows x (Here row) here = refl
 row_at_hand rows x (In block) here = cc
 
--- so are the values of all rows of a load
+-- no more values are at hand than the row has
+pub row_here_le : (rows : ObjName → Option (List Value)) (x : Thing) (told : Told)
+    → row_length (row_here told) ≤ row_length (told_row rows x told)
+row_here_le rows x Nothing = omega arith
+row_here_le rows x (Here row) = omega arith
+row_here_le rows x (In block) = omega arith
+
+-- those at hand lie aside
+pub values_aside : (rows : ObjName → Option (List Value)) (x : Thing) (told : Told)
+    → length_aside (told_row rows x told) (told_block told) ≡ row_length (row_here told)
+values_aside rows x Nothing = refl
+values_aside rows x (Here row) = refl
+values_aside rows x (In block) = refl
+
+-- where all rows of a load are at hand, so are their values
 pub values_at_hand : (rows : ObjName → Option (List Value)) (items : List (Thing × Told)) → AreHere (lie_as rows items)
     → sum_by (λ (e : Thing × Told). row_length (row_here e.1)) items ≡ values_of (as_load (lie_as rows items))
 values_at_hand rows [] here = refl

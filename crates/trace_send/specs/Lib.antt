@@ -1,3 +1,4 @@
+pub mod Blocks
 pub mod Can
 pub mod Lacking
 pub mod Room

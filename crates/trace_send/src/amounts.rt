@@ -7,8 +7,9 @@ ghost use Rattle.letter_kinds.specs.Counting.{lower_all, mint_all, raise_all};
 ghost use Rattle.letter_kinds.specs.Holdings.{own_in, row_count};
 ghost use Rattle.ref_weights.specs.Limit.{count_limit};
 ghost use Rattle.object_heap.specs.Heap.{Heap, counted};
-ghost use Rattle.foreign_table.specs.Table.{AllHere, Table, count_unheld};
+ghost use Rattle.foreign_table.specs.Table.{Table, count_unheld};
 ghost use Rattle.known_rows.specs.Holdings.{holdings_of};
+ghost use Rattle.trace_send.specs.Blocks.{blocks_minted};
 ghost use Rattle.trace_send.specs.Can.{CanLower, CanMint, CanRaise};
 
 use foreign_table::ForeignTable;
@@ -113,7 +114,7 @@ pub fn mint_counts(things: &Amounts, foreign: &mut ForeignTable)
     requires room { count_unheld things.now foreign.old.entries ≤ foreign.old.spare }
     ensures counts { (count : ℕ) (heap : Heap) → holdings_of count heap foreign.new
         ≡ mint_all things.now (holdings_of count heap foreign.old) }
-    ensures here { AllHere foreign.old → AllHere foreign.new }
+    ensures blocks { foreign.new.blocks ≡ blocks_minted things.now foreign.old.blocks }
 {
     for amount in things.as_slice() {
         foreign.mint(amount.0, amount.1);

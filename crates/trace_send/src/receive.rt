@@ -1,12 +1,13 @@
 // Who takes a letter counts what it loads.
 
-ghost use Rattle.std.specs.Prelude.{◌≡◌, ◌+◌, ◌≤◌, None, length};
+ghost use Rattle.std.specs.Prelude.{◌≡◌, ◌+◌, ◌≤◌, IsSome, length};
 ghost use Rattle.letter_kinds.specs.Load.{as_load, as_loaded};
 ghost use Rattle.row_store.specs.Memory.{remembered};
-ghost use Rattle.row_store.specs.Told.{lies_as, row_here, told_block};
+ghost use Rattle.row_store.specs.Told.{AreHere, lies_as, row_here, told_block, told_row};
 ghost use Rattle.letter_kinds.specs.Counting.{receive, receive_one};
 ghost use Rattle.known_rows.specs.Holdings.{holdings_of};
-ghost use Rattle.foreign_table.specs.Table.{AllHere, row_length};
+ghost use Rattle.foreign_table.specs.Table.{row_length};
+ghost use Rattle.trace_send.specs.Blocks.{block_received, blocks_received};
 ghost use Rattle.trace_send.specs.Can.{CanReceive, CanReceiveOne};
 ghost use Rattle.trace_send.specs.Room.{values_of};
 
@@ -27,7 +28,8 @@ fn receive_thing(
     foreign: &mut ForeignTable,
 )
     requires mine { heap.old.owner ≡ me }
-    requires here { told_block loaded.now.1 ≡ None }
+    requires told { IsSome (told_block loaded.now.1)
+        → IsSome (told_row (remembered from.now) loaded.now.0 loaded.now.1) }
     requires can { CanReceiveOne me (as_loaded (lies_as (remembered from.now) loaded.now))
         (holdings_of own.old heap.old foreign.old) }
     requires room { 1 ≤ foreign.old.spare }
@@ -36,8 +38,8 @@ fn receive_thing(
         ≡ receive_one me (as_loaded (lies_as (remembered from.now) loaded.now))
         (holdings_of own.old heap.old foreign.old) }
     ensures heap { (heap.new.owner ≡ heap.old.owner) × (heap.new.spare ≡ heap.old.spare) }
-    ensures blocks { heap.new.blocks ≡ heap.old.blocks }
-    ensures here { AllHere foreign.old → AllHere foreign.new }
+    ensures blocks { (heap.new.blocks ≡ heap.old.blocks) × (foreign.new.blocks
+        ≡ block_received me (lies_as (remembered from.now) loaded.now) foreign.old.blocks) }
     ensures room { foreign.old.spare ≤ foreign.new.spare + 1 }
     ensures values { let its = row_length (row_here loaded.now.1) in
         foreign.old.spare_values ≤ foreign.new.spare_values + its }
@@ -54,7 +56,8 @@ fn receive_thing(
 }
 
 /// The counts of an actor after it took a letter with this load: each own thing one less, each
-/// other's one more. It takes no memory.
+/// other's one more. Another's row lies in the block that the load tells of it, if it tells one;
+/// no load does so far. It takes no memory.
 pub fn receive_trace(
     load: &Load,
     me: ActorName,
@@ -69,8 +72,9 @@ pub fn receive_trace(
     ensures counts { holdings_of own.new heap.new foreign.new
         ≡ receive me (as_load load.now) (holdings_of own.old heap.old foreign.old) }
     ensures heap { (heap.new.owner ≡ heap.old.owner) × (heap.new.spare ≡ heap.old.spare) }
-    ensures blocks { heap.new.blocks ≡ heap.old.blocks }
-    ensures here { AllHere foreign.old → AllHere foreign.new }
+    ensures blocks { (heap.new.blocks ≡ heap.old.blocks)
+        × (foreign.new.blocks ≡ blocks_received me load.now foreign.old.blocks) }
+    ensures here { AreHere load.now }
     ensures room { foreign.old.spare ≤ foreign.new.spare + length load.now }
     ensures values { let its = values_of (as_load load.now) in
         foreign.old.spare_values ≤ foreign.new.spare_values + its }

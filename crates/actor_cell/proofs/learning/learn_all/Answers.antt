@@ -8,6 +8,7 @@ use Rattle.machine_rules.specs.Take.{learn}
 use Rattle.actor_cell.proofs.Learnt.{learn-cons, learn-nil}
 use Rattle.std.proofs.lemmas.List.{drop_all}
 use Rattle.trace_send.proofs.Steps.{row_at_hand, seen_here, seen_rest, values_rest, within_load}
+use Rattle.actor_cell.proofs.Tells.{brought_next}
 use Rattle.actor_cell.proofs.learning.learn_all.Goals as goal
 
 pub learn_one-requires-clause-room : goal.learn_one-requires-clause-room
@@ -44,6 +45,7 @@ loop-brought-preserved c =
       rows = ap (learn me (as_load (drop (i + 1) rows))) c.learn_one.ensures.rows ∙ learn-cons me (as_loaded e) (as_load (drop (i + 1) rows)) before
           ∙ ap (λ xs. learn me (as_load xs) before) (sym rest) ∙ c.loop-brought.invariant.rows;
       here = λ first. c.learn_one.ensures.here (c.loop-brought.invariant.here first);
+      told = brought_next rows i e c.args.known.now c.loop-brought.known c.learn_one.new.known rest c.loop-brought.invariant.told c.learn_one.ensures.told;
       room = omega (arith, c.learn_one.ensures.room, c.loop-brought.invariant.room);
       values = omega (arith, ap row_length (row_at_hand memory told.0 told.1 here), values_rest rows i e rest, c.learn_one.ensures.values, c.loop-brought.invariant.values);
     }

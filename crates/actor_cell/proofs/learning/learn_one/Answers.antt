@@ -1,13 +1,14 @@
-use Rattle.std.proofs.Common.{◌≡◌, ◌+◌, ◌≤◌, IsSome, true, false, not, eqb, sym, ap, subst, ◌∙◌}
+use Rattle.std.proofs.Common.{◌≡◌, ◌+◌, ◌≤◌, IsSome, true, false, not, eqb, inl, sym, ap, subst, ◌∙◌}
 use Rattle.orca_names.specs.Names.{owner_of}
 use Rattle.trace_send.proofs.Steps.{alike, apart, row_at_hand}
 use Rattle.letter_kinds.specs.Load.{as_loaded}
 use Rattle.foreign_table.specs.Table.{row_length}
 use Rattle.row_store.specs.Memory.{remembered}
-use Rattle.row_store.specs.Told.{lies_as, told_block}
+use Rattle.row_store.specs.Told.{lies_as, told_block, told_row}
 use Rattle.row_table.specs.Table.{AllKnownHere, KnownRows, learnt}
 use Rattle.actor_cell.proofs.Here.{learnt_here}
 use Rattle.actor_cell.proofs.Learnt.{learn_other, learn_own, learnt_room, learnt_values}
+use Rattle.actor_cell.proofs.Tells.{brought_learnt}
 use Rattle.actor_cell.proofs.learning.learn_one.Goals as goal
 
 pub learn-requires-clause-told : goal.learn-requires-clause-told
@@ -26,6 +27,11 @@ returns-then-ne-clause-here c = λ here.
     let t = c.args.known.now in
     subst AllKnownHere (sym (c.learn.ensures ∙ ap (λ block. learnt x.0 x.1 block t) c.requires.here)) (learnt_here x.0 x.1 t here)
 
+pub returns-then-ne-clause-told : goal.returns-then-ne-clause-told
+returns-then-ne-clause-told c =
+    let told = c.args.brought.now in
+    brought_learnt told.0 (told_row (remembered c.args.from.now) told.0 told.1) (told_block told.1) c.args.known.now c.learn.new.self c.learn.ensures
+
 pub returns-then-ne-clause-room : goal.returns-then-ne-clause-room
 returns-then-ne-clause-room c =
     let x = as_loaded (lies_as (remembered c.args.from.now) c.args.brought.now) in
@@ -41,6 +47,9 @@ returns-then-ne-clause-values c =
     subst (λ row. t.spare_values ≤ c.learn.new.self.spare_values + row_length row) (sym same)
     (subst (λ (u : KnownRows). t.spare_values ≤ u.spare_values + row_length x.1)
     (sym (c.learn.ensures ∙ ap (λ block. learnt x.0 x.1 block t) c.requires.here)) (learnt_values x.0 x.1 t))
+
+pub returns-else-ne-clause-told : goal.returns-else-ne-clause-told
+returns-else-ne-clause-told c = λ n row block told. inl told
 
 pub returns-else-ne-clause-rows : goal.returns-else-ne-clause-rows
 returns-else-ne-clause-rows c =

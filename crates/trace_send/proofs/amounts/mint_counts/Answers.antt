@@ -4,12 +4,13 @@ use Rattle.std.specs.FinMap as m
 use Rattle.letter_kinds.specs.Counting.{mint_all, mint_one}
 use Rattle.letter_kinds.specs.Holdings.{entry_row}
 use Rattle.object_heap.specs.Heap.{Heap}
-use Rattle.foreign_table.specs.Table.{AllHere, block_at, count_unheld, entered}
-use Rattle.foreign_table.proofs.Here.{entered_here}
+use Rattle.foreign_table.specs.Table.{Table, block_at, count_unheld}
 use Rattle.foreign_table.proofs.Unheld.{room_first, room_left}
 use Rattle.ref_weights.specs.Limit.{count_limit}
 use Rattle.known_rows.specs.Holdings.{holdings_of}
+use Rattle.trace_send.specs.Blocks.{blocks_minted}
 use Rattle.trace_send.specs.Can.{CanMint}
+use Rattle.trace_send.proofs.Blocks.{blocks_minted-cons, blocks_minted-nil}
 use Rattle.trace_send.proofs.Raising.{mint_all-cons, mint_all-nil, no_heap}
 use Rattle.trace_send.proofs.Steps.{held-is, rest_of, set-spent}
 use Rattle.trace_send.proofs.amounts.mint_counts.Goals as goal
@@ -56,10 +57,9 @@ loop-amount-preserved c =
       can = λ count heap.
           let can = subst (λ xs. CanMint xs (holdings_of count heap foreign)) rest (c.loop-amount.invariant.can count heap) in
           subst (CanMint (drop (i + 1) things)) (sym (step count heap)) can.1;
-      here = λ first.
-          let now = c.loop-amount.invariant.here first in
-          let row = entry_row (m.get foreign.entries e.0) in
-          subst AllHere (sym (c.mint.ensures ∙ ap (λ block. entered (λ n. n + e.1) e.0 row block foreign) (now e.0))) (entered_here (λ n. n + e.1) e.0 row foreign now);
+      blocks = ap (λ (t : Table). blocks_minted (drop (i + 1) things) t.blocks) c.mint.ensures
+          ∙ sym (blocks_minted-cons e (drop (i + 1) things) foreign.blocks)
+          ∙ ap (λ xs. blocks_minted xs foreign.blocks) (sym rest) ∙ c.loop-amount.invariant.blocks;
       room = subst (λ t. count_unheld (drop (i + 1) things) t.entries ≤ t.spare) (sym c.mint.ensures) left;
     }
 
@@ -68,3 +68,9 @@ returns-clause-counts c = λ count heap.
     let now = holdings_of count heap c.loop-amount.foreign in
     let done = drop_all c.loop-amount.amount-index c.args.things.now (omega (arith, ap length c.as_slice-amount-items.ensures)) in
     sym (mint_all-nil now) ∙ ap (λ xs. mint_all xs now) (sym done) ∙ c.loop-amount.invariant.counts count heap
+
+pub returns-clause-blocks : goal.returns-clause-blocks
+returns-clause-blocks c =
+    let now = c.loop-amount.foreign.blocks in
+    let done = drop_all c.loop-amount.amount-index c.args.things.now (omega (arith, ap length c.as_slice-amount-items.ensures)) in
+    sym (blocks_minted-nil now) ∙ ap (λ xs. blocks_minted xs now) (sym done) ∙ c.loop-amount.invariant.blocks

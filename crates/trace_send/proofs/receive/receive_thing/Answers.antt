@@ -1,13 +1,13 @@
-use Rattle.std.proofs.Common.{not, eqb, ◌≢◌, ◌+◌, ◌-◌, sym, ap, subst, ◌∙◌}
+use Rattle.std.proofs.Common.{not, eqb, ◌≢◌, ◌-◌, refl, sym, ap, ◌∙◌, arith}
 use Rattle.orca_names.specs.Names.{owner_of}
 use Rattle.letter_kinds.specs.Load.{as_loaded}
 use Rattle.row_store.specs.Memory.{remembered}
-use Rattle.row_store.specs.Told.{lies_as, told_block, told_row}
+use Rattle.row_store.specs.Told.{lies_as, told_block}
 use Rattle.object_heap.specs.Heap.{Heap}
-use Rattle.foreign_table.specs.Table.{AllHere, entered}
-use Rattle.foreign_table.proofs.Here.{entered_here}
+use Rattle.foreign_table.specs.Table.{Table}
 use Rattle.known_rows.specs.Holdings.{holdings_of}
-use Rattle.trace_send.proofs.Steps.{apart, alike, fits-held, enough-actor, enough-object, counted-object, set-actor-at, set-object-at, receives_other, receives_own}
+use Rattle.trace_send.proofs.Blocks.{other_received, own_received}
+use Rattle.trace_send.proofs.Steps.{apart, alike, fits-held, enough-actor, enough-object, counted-object, set-actor-at, set-object-at, receives_other, receives_own, values_aside}
 use Rattle.trace_send.proofs.receive.receive_thing.Goals as goal
 
 pub gain-requires-clause-fits : goal.gain-requires-clause-fits
@@ -49,12 +49,23 @@ returns-in-Obj-clause-counts c =
     ∙ set-object-at c.args.own.now c.args.heap.now c.args.foreign.now (λ n. n - 1) c.args.loaded.now.0 c.in-Obj.n c.in-Obj.is
     ∙ receives_own c.args.me c.args.own.now c.args.heap.now c.args.foreign.now (as_loaded (lies_as (remembered c.args.from.now) c.args.loaded.now)) same
 
-pub returns-then-ne-clause-here : goal.returns-then-ne-clause-here
-returns-then-ne-clause-here c = λ here.
+pub returns-then-ne-clause-blocks : goal.returns-then-ne-clause-blocks
+returns-then-ne-clause-blocks c =
+    let other : owner_of c.args.loaded.now.0 ≢ c.args.me = apart (owner_of c.args.loaded.now.0) c.args.me (ap (λ a. not (eqb a c.args.me)) (sym c.owner.ensures) ∙ sym c.ne.ensures ∙ c.if-ne.true) in
+    (refl, ap (λ (t : Table). t.blocks) c.gain.ensures ∙ other_received c.args.me (lies_as (remembered c.args.from.now) c.args.loaded.now) c.args.foreign.now.blocks other)
+
+pub returns-then-ne-clause-values : goal.returns-then-ne-clause-values
+returns-then-ne-clause-values c =
     let told = c.args.loaded.now in
-    let row = told_row (remembered c.args.from.now) told.0 told.1 in
-    let foreign = c.args.foreign.now in
-    subst AllHere (sym (c.gain.ensures ∙ ap (λ block. entered (λ n. n + 1) told.0 row block foreign) c.requires.here)) (entered_here (λ n. n + 1) told.0 row foreign here)
+    let aside = values_aside (remembered c.args.from.now) told.0 told.1 in
+    omega (arith, aside, ap (λ (t : Table). t.spare_values) c.gain.ensures)
+
+pub returns-in-Actor-clause-blocks : goal.returns-in-Actor-clause-blocks
+returns-in-Actor-clause-blocks c =
+    let same = alike (owner_of c.args.loaded.now.0) c.args.me (ap (λ a. not (eqb a c.args.me)) (sym c.owner.ensures) ∙ sym c.ne.ensures ∙ c.if-ne.false) in
+    (refl, own_received c.args.me (lies_as (remembered c.args.from.now) c.args.loaded.now) c.args.foreign.now.blocks same)
 
 pub returns-in-Obj-clause-blocks : goal.returns-in-Obj-clause-blocks
-returns-in-Obj-clause-blocks c = ap (λ (h : Heap). h.blocks) c.lower-in-Obj.ensures
+returns-in-Obj-clause-blocks c =
+    let same = alike (owner_of c.args.loaded.now.0) c.args.me (ap (λ a. not (eqb a c.args.me)) (sym c.owner.ensures) ∙ sym c.ne.ensures ∙ c.if-ne.false) in
+    (ap (λ (h : Heap). h.blocks) c.lower-in-Obj.ensures, own_received c.args.me (lies_as (remembered c.args.from.now) c.args.loaded.now) c.args.foreign.now.blocks same)

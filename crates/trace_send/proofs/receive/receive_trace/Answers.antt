@@ -1,20 +1,23 @@
 use Rattle.std.proofs.Common.{◌+◌, drop, sym, ap, ◌∙◌, subst, arith}
+use Rattle.std.specs.Prelude.{is_some}
 use Rattle.std.proofs.lemmas.List.{drop_all}
 use Rattle.row_store.specs.Memory.{remembered}
 use Rattle.row_store.specs.Told.{lies_as}
-use Rattle.foreign_table.specs.Table.{row_length}
 use Rattle.letter_kinds.specs.Load.{as_load, as_loaded}
 use Rattle.letter_kinds.specs.Counting.{receive}
 use Rattle.letter_kinds.proofs.Loads.{long_load}
 use Rattle.known_rows.specs.Holdings.{holdings_of}
+use Rattle.trace_send.specs.Blocks.{blocks_received}
 use Rattle.trace_send.specs.Can.{CanReceive}
-use Rattle.trace_send.proofs.Steps.{receive-cons, receive-nil, row_at_hand, seen_here, seen_rest, values_rest, within_load}
+use Rattle.trace_send.proofs.Blocks.{blocks_received-cons, blocks_received-nil}
+use Rattle.trace_send.proofs.Steps.{receive-cons, receive-nil, row_here_le, seen_here, seen_rest, values_rest, within_load}
 use Rattle.trace_send.proofs.receive.receive_trace.Goals as goal
 
-pub receive_thing-requires-clause-here : goal.receive_thing-requires-clause-here
-receive_thing-requires-clause-here c =
+pub receive_thing-requires-clause-told : goal.receive_thing-requires-clause-told
+receive_thing-requires-clause-told c = λ lies.
     let rows = remembered c.parts.result.1.now in
-    seen_here rows c.parts.result.0.now c.args.load.now c.parts.ensures.load c.loop-loaded.loaded-index c.loaded-item.result c.loop-loaded-test.true c.loaded-item.is c.parts.ensures.here
+    let here = seen_here rows c.parts.result.0.now c.args.load.now c.parts.ensures.load c.loop-loaded.loaded-index c.loaded-item.result c.loop-loaded-test.true c.loaded-item.is c.parts.ensures.here in
+    let none = ap is_some here in cc
 
 pub receive_thing-requires-clause-can : goal.receive_thing-requires-clause-can
 receive_thing-requires-clause-can c =
@@ -37,8 +40,7 @@ receive_thing-requires-clause-values c =
     let i = c.loop-loaded.loaded-index in
     let told = c.loaded-item.result in
     let rest = seen_rest rows c.parts.result.0.now load c.parts.ensures.load i told c.loop-loaded-test.true c.loaded-item.is in
-    let here = seen_here rows c.parts.result.0.now load c.parts.ensures.load i told c.loop-loaded-test.true c.loaded-item.is c.parts.ensures.here in
-    omega (arith, ap row_length (row_at_hand rows told.0 told.1 here), values_rest load i (lies_as rows told) rest, c.loop-loaded.invariant.values, c.requires.values)
+    omega (arith, row_here_le rows told.0 told.1, values_rest load i (lies_as rows told) rest, c.loop-loaded.invariant.values, c.requires.values)
 
 pub loop-loaded-preserved : goal.loop-loaded-preserved
 loop-loaded-preserved c =
@@ -48,7 +50,6 @@ loop-loaded-preserved c =
     let told = c.loaded-item.result in
     let e = lies_as rows told in
     let rest = seen_rest rows c.parts.result.0.now load c.parts.ensures.load i told c.loop-loaded-test.true c.loaded-item.is in
-    let here = seen_here rows c.parts.result.0.now load c.parts.ensures.load i told c.loop-loaded-test.true c.loaded-item.is c.parts.ensures.here in
     let before = holdings_of c.loop-loaded.own c.loop-loaded.heap c.loop-loaded.foreign in
     let can = subst (λ xs. CanReceive c.args.me (as_load xs) before) rest c.loop-loaded.invariant.can in
     record {
@@ -56,10 +57,12 @@ loop-loaded-preserved c =
       can = subst (CanReceive c.args.me (as_load (drop (i + 1) load))) (sym c.receive_thing.ensures.counts) can.1;
       owner = c.receive_thing.ensures.heap.0 ∙ c.loop-loaded.invariant.owner;
       spare = c.receive_thing.ensures.heap.1 ∙ c.loop-loaded.invariant.spare;
-      blocks = c.receive_thing.ensures.blocks ∙ c.loop-loaded.invariant.blocks;
-      here = λ first. c.receive_thing.ensures.here (c.loop-loaded.invariant.here first);
+      blocks = c.receive_thing.ensures.blocks.0 ∙ c.loop-loaded.invariant.blocks;
+      held = ap (blocks_received c.args.me (drop (i + 1) load)) c.receive_thing.ensures.blocks.1
+          ∙ sym (blocks_received-cons c.args.me e (drop (i + 1) load) c.loop-loaded.foreign.blocks)
+          ∙ ap (λ xs. blocks_received c.args.me xs c.loop-loaded.foreign.blocks) (sym rest) ∙ c.loop-loaded.invariant.held;
       room = omega (arith, c.receive_thing.ensures.room, c.loop-loaded.invariant.room);
-      values = omega (arith, ap row_length (row_at_hand rows told.0 told.1 here), values_rest load i e rest, c.receive_thing.ensures.values, c.loop-loaded.invariant.values);
+      values = omega (arith, row_here_le rows told.0 told.1, values_rest load i e rest, c.receive_thing.ensures.values, c.loop-loaded.invariant.values);
     }
 
 pub returns-clause-counts : goal.returns-clause-counts
@@ -69,3 +72,11 @@ returns-clause-counts c =
     let long = long_load (remembered c.parts.result.1.now) c.parts.result.0.now load c.parts.ensures.load in
     let done = drop_all c.loop-loaded.loaded-index load (omega (arith, long, c.loop-loaded-test.false)) in
     sym (receive-nil c.args.me now) ∙ ap (λ xs. receive c.args.me (as_load xs) now) (sym done) ∙ c.loop-loaded.invariant.counts
+
+pub returns-clause-blocks : goal.returns-clause-blocks
+returns-clause-blocks c =
+    let load = c.args.load.now in
+    let now = c.loop-loaded.foreign.blocks in
+    let long = long_load (remembered c.parts.result.1.now) c.parts.result.0.now load c.parts.ensures.load in
+    let done = drop_all c.loop-loaded.loaded-index load (omega (arith, long, c.loop-loaded-test.false)) in
+    (c.loop-loaded.invariant.blocks, sym (blocks_received-nil c.args.me now) ∙ ap (λ xs. blocks_received c.args.me xs now) (sym done) ∙ c.loop-loaded.invariant.held)

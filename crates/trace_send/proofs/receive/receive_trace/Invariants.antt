@@ -2,7 +2,7 @@ use Rattle.std.proofs.Common.{◌≡◌, ◌+◌, ◌≤◌, drop}
 use Rattle.letter_kinds.specs.Load.{as_load}
 use Rattle.letter_kinds.specs.Counting.{receive}
 use Rattle.known_rows.specs.Holdings.{holdings_of}
-use Rattle.foreign_table.specs.Table.{AllHere}
+use Rattle.trace_send.specs.Blocks.{blocks_received}
 use Rattle.trace_send.specs.Can.{CanReceive}
 use Rattle.trace_send.specs.Room.{values_of}
 use Rattle.trace_send.proofs.receive.receive_trace.Given as goal
@@ -14,7 +14,7 @@ invariant-loop-loaded l = record {
   owner : l.heap.owner ≡ l.fn.heap.owner;
   spare : l.heap.spare ≡ l.fn.heap.spare;
   blocks : l.heap.blocks ≡ l.fn.heap.blocks;
-  here : AllHere l.fn.foreign → AllHere l.foreign;
+  held : blocks_received l.me (drop l.loaded-index l.load) l.foreign.blocks ≡ blocks_received l.me l.load l.fn.foreign.blocks;
   room : l.fn.foreign.spare ≤ l.foreign.spare + l.loaded-index;
   values : l.fn.foreign.spare_values + values_of (as_load (drop l.loaded-index l.load)) ≤ l.foreign.spare_values + values_of (as_load l.load);
 }

@@ -1,4 +1,4 @@
-use Rattle.std.proofs.Common.{false, not, sym, ap, subst, ◌∙◌}
+use Rattle.std.proofs.Common.{false, [], not, sym, ap, subst, ◌∙◌}
 use Rattle.std.specs.FinMap as m
 use Rattle.foreign_table.specs.Back.{BackRises, goes_back}
 use Rattle.letter_kinds.specs.Counting.{sweep}
@@ -9,6 +9,7 @@ use Rattle.object_heap.specs.Heap as heaps
 use Rattle.foreign_table.specs.Table as tables
 use Rattle.actor_cell.proofs.Here.{all_left, forgotten_here, given_here}
 use Rattle.actor_cell.proofs.Swept.{swept_is, unused_rises, used_stay}
+use Rattle.actor_cell.proofs.Tells.{brought_left, held_given, own_freed, tells_only}
 use Rattle.actor_cell.proofs.cell.Cell.apply_collect.Goals as goal
 
 pub apply-requires : goal.apply-requires
@@ -30,6 +31,14 @@ returns-clause-cell c = λ trace is.
     let known = c.forget.ensures.rows ∙ (λ i. m.retain_keys s.known.rows (λ x. not (goes_back (unused i) x))) ∙ used_stay s trace in
     (λ i. record (as_cell s) { holdings = holdings i; known = c.forget.new.self.rows; dirty = false })
     ∙ swept_is s trace (sweep marked s.heap.owner (as_cell s).holdings) c.forget.new.self.rows known
+
+pub returns-clause-told : goal.returns-clause-told
+returns-clause-told c =
+    let s = c.args.self.now in
+    let found = c.args.found.now in
+    tells_only s.heap c.apply.new.heap s.foreign c.apply.new.foreign s.known c.forget.new.self [] (own_freed found.plan.free s.heap c.apply.new.heap c.apply.ensures.heap)
+    (held_given found.plan.back s.foreign c.apply.new.foreign [] c.apply.ensures.foreign)
+    (brought_left s.known c.forget.new.self (λ x. not (goes_back c.as_slice.result.now x)) [] c.forget.ensures.rows c.forget.ensures.blocks)
 
 pub invariant_of-self : goal.invariant_of-self
 invariant_of-self c =

@@ -12,6 +12,9 @@ apply_collect-requires g c = (c.args.trace, c.in_ok-found.ensures.sweep)
 pub returns-clause-cell : goal.returns-clause-cell
 returns-clause-cell g c = c.apply_collect.ensures.cell c.args.trace c.in_ok-found.ensures.sweep
 
+pub returns-clause-told : goal.returns-clause-told
+returns-clause-told g c = c.apply_collect.ensures.told
+
 pub returns-clause-out : goal.returns-clause-out
 returns-clause-out g c =
     let s = c.args.self.now in

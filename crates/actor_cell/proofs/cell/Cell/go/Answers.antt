@@ -6,8 +6,14 @@ use Rattle.actor_cell.specs.Cells.{as_cell}
 use Rattle.actor_cell.specs.Goes.{IsTold, cell_by, gone_by, out_of, turned_in}
 use Rattle.actor_cell.specs.Moves.{act_in}
 use Rattle.actor_cell.specs.Outs.{as_out}
+use Rattle.letter_kinds.specs.Telling.{in_block}
+use Rattle.actor_cell.proofs.Tells.{told_before}
 use Rattle.actor_cell.proofs.Telling.{told_gone}
 use Rattle.actor_cell.proofs.cell.Cell.go.Goals as goal
+
+pub returns-clause-told : goal.returns-clause-told
+returns-clause-told g c = λ n row block told.
+    told_before (in_block n row block) (c.apply_go.ensures.told n row block told) (c.in_ok-reserve_go.ensures.told n row block)
 
 pub returns-clause-gone : goal.returns-clause-gone
 returns-clause-gone g c = by c.args.self.now.frame refl c.in_ok-find_go.ensures.found.told
