@@ -1,3 +1,4 @@
 pub mod Changing
 pub mod Indexing
 pub mod Naming
+pub mod Telling

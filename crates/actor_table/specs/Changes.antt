@@ -7,6 +7,7 @@ use Rattle.turn_rules.specs.Segment.{Turn}
 use Rattle.foreign_table.specs.Table.{count_on}
 use Rattle.letter_kinds.specs.Letters.{Letter}
 use Rattle.letter_kinds.specs.declared.note.Note.{Note}
+use Rattle.letter_kinds.specs.Telling.{TellsOnly}
 use Rattle.orca_names.specs.declared.trace.Trace.{Trace}
 use Rattle.actor_cell.specs.declared.sweeping.Sweep.{Sweep}
 use Rattle.actor_cell.specs.declared.turning.Turned.{Turned}
@@ -24,6 +25,7 @@ use Rattle.ref_weights.specs.Limit.{count_limit}
 use Rattle.actor_table.specs.declared.slot.Slot.{Slot}
 use Rattle.actor_table.specs.declared.slot.Place.TheVariants.{Home}
 use Rattle.actor_table.specs.Slots.{Table, actors_of, away_of, is_away, letters_in, owner_in, places_of, slot_at}
+use Rattle.actor_table.specs.Telling.{TableTells}
 
 -- an actor takes the first of its letters; its turn is done as it was found, where one that it makes has
 -- the name and is held with the weight; its collection is done as it was found; or it has reported
@@ -154,6 +156,7 @@ pub record KeepsSpace (old new : Table) : Type 0 where
 pub record OnlyTableRoom (old new : Table) : Type 0 where
   pub places : places_of new.slots ≡ places_of old.slots
   pub letters : letters_in new.slots ≡ letters_in old.slots
+  pub told : TellsOnly (TableTells old.slots) [] (TableTells new.slots)
   pub actors : actors_of new.slots ≡ actors_of old.slots
   pub away : away_of new.slots ≡ away_of old.slots
   pub space : KeepsSpace old new

@@ -3,3 +3,4 @@ pub mod Codes
 pub mod Index
 pub mod Rounds
 pub mod Slots
+pub mod Telling

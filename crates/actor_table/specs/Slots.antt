@@ -55,7 +55,7 @@ mail_of x = mail_in x.place x.mail
 
 -- it is gone, and no letter waits
 abbrev pub gone : Slot
-gone = record { place = Gone; mail = record { letters = []; spare = 0 } }
+gone = record { place = Gone; mail = record { letters = []; brought = []; spare = 0 } }
 
 -- whose cell it is, at home or away
 abbrev pub owner_in : Place → Option ℕ

@@ -1,10 +1,13 @@
 // What becomes of one actor by its part of an event.
 
-ghost use Rattle.std.specs.Prelude.{◌≡◌, ◌≤◌, option_map, OnOk};
+ghost use Rattle.std.specs.Prelude.{◌≡◌, ◌≤◌, [], option_map, OnOk};
 ghost use Rattle.letter_kinds.specs.Letters.{as_letter};
+ghost use Rattle.letter_kinds.specs.Telling.{TellsOnly};
 ghost use Rattle.machine_rules.specs.Actors.{seat};
 ghost use Rattle.actor_cell.specs.Cells.{as_cell};
+ghost use Rattle.actor_cell.specs.Tells.{Tells};
 ghost use Rattle.actor_table.specs.Changes.{AllowsChange, Change, HasRoomIn, is_go, letter_taken, seat_after};
+ghost use Rattle.actor_table.specs.Telling.{TellsWith};
 
 use actor_cell::{Cell, Doing, Sweep, Turned};
 use behaviour_check::Checked;
@@ -37,6 +40,7 @@ pub trait Changes {
     ) -> Result<(), NoMemory>
         ensures cell { as_cell cell.new ≡ as_cell cell.old }
         ensures owner { cell.new.heap.owner ≡ cell.old.heap.owner }
+        ensures told { TellsOnly (Tells cell.old) [] (Tells cell.new) }
         ensures ok { OnOk result (HasRoomIn (as_change self.now) mail.now.letters cell.new) };
 
     /// It is done to the cell and the letters of the actor, and gives the letter that it takes. It
@@ -52,6 +56,8 @@ pub trait Changes {
         ensures seat { let me = cell.old.heap.owner in seat (as_cell cell.new) mail.new.letters
             ≡ seat_after code.now me (as_change self.now) (seat (as_cell cell.old) mail.old.letters) }
         ensures owner { cell.new.heap.owner ≡ cell.old.heap.owner }
+        ensures told { TellsOnly (TellsWith cell.old mail.old.brought) []
+            (TellsWith cell.new mail.new.brought) }
         ensures room { mail.old.spare ≤ mail.new.spare }
         ensures taken { option_map as_letter result ≡ letter_taken (as_change self.now) mail.old.letters };
 }

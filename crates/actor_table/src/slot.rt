@@ -3,10 +3,12 @@
 ghost use Rattle.std.specs.Prelude.{◌≡◌, ◌+◌, ◌<◌, ◌≤◌, ◌||◌, [], ℕ, IsSomeAnd, OnOk, if◌then◌else◌, is_some, option_map, Some, true, false, ⊤};
 ghost use Rattle.std.specs.Option.{option_copied};
 ghost use Rattle.letter_kinds.specs.Letters.{as_letter};
+ghost use Rattle.letter_kinds.specs.Telling.{TellsOnly, all_brought, brought_in};
 ghost use Rattle.machine_rules.specs.Actors.{with_letter_more};
 ghost use Rattle.machine_rules.specs.Guards.{may_block, may_do, may_go};
 ghost use Rattle.actor_cell.specs.Cells.{as_cell};
 ghost use Rattle.actor_table.specs.Changes.{CanChange, HasRoomToChange, KeepsPlace, letter_taken, note_taken, seat_after};
+ghost use Rattle.actor_table.specs.Telling.{SlotTells};
 ghost use Rattle.actor_table.specs.declared.slot.Place.TheVariants.{Gone, Home};
 ghost use Rattle.actor_table.specs.Slots.{can_act, can_settle, event_in, event_of, home_of, is_away, mail_of, may_at, may_event, owner_in, seat_of, IsOwnedBy};
 
@@ -167,6 +169,7 @@ pub(crate) fn reserve<C: Changes>(
     spare: &mut SpareFrame,
 ) -> Result<(), NoMemory>
     ensures seat { seat_of slot.new ≡ seat_of slot.old }
+    ensures told { TellsOnly (SlotTells slot.old) [] (SlotTells slot.new) }
     ensures kept { KeepsPlace slot.old slot.new }
     ensures ok { OnOk result (HasRoomToChange (C.as_change change.now) slot.new) }
 {
@@ -180,6 +183,7 @@ pub(crate) fn reserve<C: Changes>(
 pub(crate) fn reserve_letters(slot: &mut Slot, n: usize) -> Result<(), NoMemory>
     ensures place { slot.new.place ≡ slot.old.place }
     ensures letters { slot.new.mail.letters ≡ slot.old.mail.letters }
+    ensures brought { slot.new.mail.brought ≡ slot.old.mail.brought }
     ensures room { slot.old.mail.spare ≤ slot.new.mail.spare }
     ensures ok { OnOk result (is_some (seat_of slot.old) ≡ true → n ≤ slot.new.mail.spare) }
 {
@@ -192,7 +196,7 @@ pub(crate) fn reserve_letters(slot: &mut Slot, n: usize) -> Result<(), NoMemory>
 /// The actor goes, with its cell and its letters.
 pub(crate) fn clear(alloc: Global, slot: &mut Slot)
     ensures place { slot.new.place ≡ Gone }
-    ensures letters { slot.new.mail.letters ≡ [] }
+    ensures letters { (slot.new.mail.letters ≡ []) × (slot.new.mail.brought ≡ []) }
 {
     *slot = Slot {
         place: Place::Gone,
@@ -207,6 +211,7 @@ pub(crate) fn lift(slot: &mut Slot) -> Option<Cell>
     ensures away { is_away slot.new ≡ (if is_some result then true else is_away slot.old) }
     ensures owner { owner_in slot.new.place ≡ owner_in slot.old.place }
     ensures mail { slot.new.mail ≡ slot.old.mail }
+    ensures told { TellsOnly (SlotTells slot.old) [] (SlotTells slot.new) }
 {
     match mem::replace(&mut slot.place, Place::Gone) {
         Place::Home(cell) => {
@@ -256,6 +261,7 @@ pub(crate) fn change<C: Changes>(
     requires { IsSomeAnd (home_of slot.old) (λ c. CanChange c.heap.owner (C.as_change change.now) slot.old) }
     ensures seat { (a : ℕ) → IsOwnedBy a slot.old.place
         → seat_of slot.new ≡ seat_after code.now a (C.as_change change.now) (seat_of slot.old) }
+    ensures told { TellsOnly (SlotTells slot.old) [] (SlotTells slot.new) }
     ensures kept { KeepsPlace slot.old slot.new }
     ensures taken { option_map as_letter result ≡ letter_taken (C.as_change change.now) slot.old.mail.letters }
 {
@@ -270,6 +276,7 @@ pub(crate) fn change<C: Changes>(
 pub(crate) fn push_letter(slot: &mut Slot, letter: Letter)
     requires { is_some (seat_of slot.old) ≡ true → 0 < slot.old.mail.spare }
     ensures seat { seat_of slot.new ≡ with_letter_more (as_letter letter) (seat_of slot.old) }
+    ensures told { TellsOnly (SlotTells slot.old) (all_brought (brought_in letter)) (SlotTells slot.new) }
     ensures place { slot.new.place ≡ slot.old.place }
     ensures room { slot.old.mail.spare ≤ slot.new.mail.spare + 1 }
 {

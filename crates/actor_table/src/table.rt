@@ -3,14 +3,17 @@
 ghost use Rattle.std.specs.Prelude.{◌≡◌, ◌==◌, ◌+◌, ◌<◌, ◌≤◌, ◌++◌, ◌∷◌, ◌≢◌, [], ℕ, false, length, if◌then◌else◌, is_some, option_map, position, IfSome, OnOk, Some, None, set, true, ⊤};
 ghost use Rattle.std.specs.Option.{option_copied};
 ghost use Rattle.letter_kinds.specs.Letters.{as_letter};
+ghost use Rattle.letter_kinds.specs.Telling.{TellsOnly, all_brought, brought_in};
 ghost use Rattle.machine_rules.specs.Actors.{push_letter, seat_at};
 ghost use Rattle.actor_cell.specs.Cells.{as_cell};
+ghost use Rattle.actor_cell.specs.Tells.{Tells};
 ghost use Rattle.orca_names.specs.declared.limits.TheConstants.{ACTORS_LIMIT};
 ghost use Rattle.actor_table.specs.declared.slot.Place.TheVariants.{Home};
 ghost use Rattle.actor_table.specs.Changes.{CanChange, HasCell, HasRoomToChange, KeepsRest, KeepsSpace, OnlyTableRoom, changed_at, letter_taken, note_taken, seat_after};
 ghost use Rattle.actor_table.specs.Index.{IsIndex};
 ghost use Rattle.actor_table.specs.Rounds.{IsNextThat, has_event};
 ghost use Rattle.actor_table.specs.Slots.{actors_of, away_of, can_act, can_settle, event_of, gone, home_of, is_away, mail_of, may_event, slot_at};
+ghost use Rattle.actor_table.specs.Telling.{PlaceTells, TableTells};
 
 use crate::bits::{put_bits, put_bits_after, reserve_bits};
 use crate::change::Changes;
@@ -206,6 +209,7 @@ impl ActorTable {
     #[inline(always)]
     pub fn reserve<C: Changes>(&mut self, a: ActorName, change: &C) -> Result<(), NoMemory>
         ensures actors { actors_of self.new.slots ≡ actors_of self.old.slots }
+        ensures told { TellsOnly (TableTells self.old.slots) [] (TableTells self.new.slots) }
         ensures rest { KeepsRest self.old self.new }
         ensures ok { OnOk result (HasRoomToChange (C.as_change change.now) (slot_at self.new.slots a)) }
     {
@@ -279,6 +283,7 @@ impl ActorTable {
         requires { CanChange a (C.as_change change.now) (slot_at self.old.slots a) }
         ensures actors { actors_of self.new.slots
             ≡ changed_at (seat_after code.now a (C.as_change change.now)) a (actors_of self.old.slots) }
+        ensures told { TellsOnly (TableTells self.old.slots) [] (TableTells self.new.slots) }
         ensures rest { KeepsRest self.old self.new }
         ensures taken { option_map as_letter result
             ≡ letter_taken (C.as_change change.now) (slot_at self.old.slots a).mail.letters }
@@ -297,6 +302,8 @@ impl ActorTable {
             → 0 < (slot_at self.old.slots to).mail.spare }
         ensures actors { actors_of self.new.slots
             ≡ push_letter to (as_letter letter) (actors_of self.old.slots) }
+        ensures told { TellsOnly (TableTells self.old.slots) (all_brought (brought_in letter))
+            (TableTells self.new.slots) }
         ensures spare { self.new.spare ≡ self.old.spare }
         ensures away { away_of self.new.slots ≡ away_of self.old.slots }
         ensures room { (b : ℕ) → (slot_at self.old.slots b).mail.spare
@@ -315,6 +322,7 @@ impl ActorTable {
     #[inline(always)]
     pub fn clear(&mut self, alloc: Global, a: ActorName)
         ensures actors { actors_of self.new.slots ≡ set (actors_of self.old.slots) a None }
+        ensures told { TellsOnly (TableTells self.old.slots) [] (TableTells self.new.slots) }
         ensures spare { self.new.spare ≡ self.old.spare }
         ensures away { away_of self.new.slots ≡ set (away_of self.old.slots) a false }
         ensures room { (b : ℕ) → b ≢ a → slot_at self.new.slots b ≡ slot_at self.old.slots b }
@@ -336,6 +344,7 @@ impl ActorTable {
         ensures actors { actors_of self.new.slots ≡ actors_of self.old.slots }
         ensures away { away_of self.new.slots
             ≡ (if is_some result then set (away_of self.old.slots) a true else away_of self.old.slots) }
+        ensures told { TellsOnly (TableTells self.old.slots) [] (TableTells self.new.slots) }
         ensures space { KeepsSpace self.old self.new }
     {
         if a.0 as usize >= self.slots.len() {
@@ -347,16 +356,19 @@ impl ActorTable {
         lent
     }
 
-    /// Takes back the cell that was lent, unchanged. It takes no memory.
+    /// Takes back the cell that was lent, unchanged; of rows in blocks it tells no more than it did. It
+    /// takes no memory.
     #[tactic(auto, using(crate::proofs::Changing::one_place))]
     pub fn put_back(&mut self, a: ActorName, cell: Cell)
         requires away { is_away (slot_at self.old.slots a) ≡ true }
         requires same { option_map (λ o. o.cell) (seat_at (actors_of self.old.slots) a)
             ≡ Some (as_cell cell) }
         requires owner { cell.heap.owner ≡ a }
+        requires told { TellsOnly (PlaceTells (slot_at self.old.slots a).place) [] (Tells cell) }
         ensures place { (slot_at self.new.slots a).place ≡ Home cell }
         ensures actors { actors_of self.new.slots ≡ actors_of self.old.slots }
         ensures away { away_of self.new.slots ≡ set (away_of self.old.slots) a false }
+        ensures told { TellsOnly (TableTells self.old.slots) [] (TableTells self.new.slots) }
         ensures space { KeepsSpace self.old self.new }
     {
         let slot = &mut self.slots[a.0 as usize];

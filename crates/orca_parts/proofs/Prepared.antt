@@ -1,5 +1,5 @@
 -- A turn that was found, and what it takes to be prepared.
-use Rattle.std.proofs.Common.{◌≡◌, ◌≤◌, ℕ, true, false, List, length, get_or, Option, None, Some, refl, sym, ap, subst, ◌∙◌}
+use Rattle.std.proofs.Common.{◌≡◌, ◌≤◌, ℕ, true, false, List, length, get_or, Option, None, Some, refl, sym, ap, subst, ◌∙◌, []}
 use Rattle.std.specs.Prelude.{IsSomeAnd, is_some}
 use Rattle.std.specs.Option.{option_map_or}
 use Rattle.std.proofs.lemmas.Bool.{false≢true}
@@ -31,6 +31,9 @@ use Rattle.orca_parts.specs.Goes.{FitsGo, HasRoomOut, IsFoundGo}
 use Rattle.orca_parts.specs.Parts.{state_of}
 use Rattle.orca_parts.specs.declared.parts.Parts.{Parts}
 use Rattle.orca_parts.proofs.Giving.{seat_here}
+use Rattle.actor_table.specs.Telling.{TableTells}
+use Rattle.letter_kinds.proofs.Telling.{tells_then}
+use Rattle.letter_kinds.specs.Telling.{TellsOnly}
 
 -- an actor that is present and not away has its cell at home
 home_in : (place : Place) (letters : List Letter) → is_some (seat_in place letters) ≡ true
@@ -55,7 +58,11 @@ at_home slots a c mail there home =
 
 pub only_room_then : (one two three : Parts) → OnlyRoom one two → OnlyRoom two three → OnlyRoom one three
 only_room_then one two three first second =
-    record { state = λ p o. second.state p o ∙ first.state p o; away = second.away ∙ first.away }
+    record {
+      state = λ p o. second.state p o ∙ first.state p o;
+      away = second.away ∙ first.away;
+      told = tells_then (TableTells one.table.slots) (TableTells two.table.slots) (TableTells three.table.slots) [] first.told second.told;
+    }
 
 pub keeps_then : (one two three : Core) → KeepsCore one two → KeepsCore two three → KeepsCore one three
 keeps_then one two three first second = record {
@@ -65,9 +72,9 @@ keeps_then one two three first second = record {
 
 -- the table has more room, and the room for a turn is used
 pub table_room : (m : Parts) (table : Table) (turn : Turn) → actors_of table.slots ≡ actors_of m.table.slots → away_of table.slots ≡ away_of m.table.slots
-    → OnlyRoom m (record m { table = table; turn = turn })
-table_room m table turn actors away =
-    record { state = λ p o. ap (λ xs. record (state_of p o m) { actors = xs }) actors; away = away }
+    → TellsOnly (TableTells m.table.slots) [] (TableTells table.slots) → OnlyRoom m (record m { table = table; turn = turn })
+table_room m table turn actors away told =
+    record { state = λ p o. ap (λ xs. record (state_of p o m) { actors = xs }) actors; away = away; told = told }
 
 -- what was found fits, once the memory was taken
 module _ (options : Options) (program : Program) (a : ℕ) (found : Turned) (old : List Slot) (turn : Turn) (mid : List Slot) (m : Parts) where

@@ -52,6 +52,9 @@ use Rattle.orca_parts.specs.Touched.{receivers}
 use Rattle.orca_parts.specs.Away.{is_out}
 use Rattle.orca_parts.proofs.Homes.{home_is}
 use Rattle.orca_parts.proofs.Reserving.{once_each}
+use Rattle.actor_table.specs.Telling.{TableTells}
+use Rattle.actor_table.proofs.Telling.{still_told}
+use Rattle.letter_kinds.specs.Telling.{TellsOnly}
 
 module _ (may : rules.Cell → List Letter → Bool) where
   -- an actor that may not act at home is away, or its event is not enabled
@@ -156,8 +159,8 @@ fits_take a m old actors away may room note =
 -- but for room all is the same where the actors, and what is to be heard, are
 pub only_room : (old new : Parts) → new.detector.state ≡ old.detector.state → new.prints.items ≡ old.prints.items → new.objects ≡ old.objects
     → actors_of new.table.slots ≡ actors_of old.table.slots → away_of new.table.slots ≡ away_of old.table.slots → new.notes.items ≡ old.notes.items
-    → OnlyRoom old new
-only_room old new detector prints objects actors away notes = record {
+    → TellsOnly (TableTells old.table.slots) [] (TableTells new.table.slots) → OnlyRoom old new
+only_room old new detector prints objects actors away notes told = record {
   state = λ program options. λ i. record {
     program = program;
     options = options;
@@ -168,6 +171,7 @@ only_room old new detector prints objects actors away notes = record {
     objects = objects i;
   };
   away = away;
+  told = told;
 }
 
 -- ---- how the preparing of an event ends
@@ -175,7 +179,7 @@ only_room old new detector prints objects actors away notes = record {
 -- the event is not enabled, or its actor's cell is away
 refused : {T : Type 0} (e : Event) (m : Core) → next_in m e ≡ NotEnabled → Prepares {T = T} e m m (Err faults.NotEnabled)
 refused e m off = record {
-  same = record { alike = record { code = refl; options = refl }; room = record { state = λ p o. refl; away = refl } };
+  same = record { alike = record { code = refl; options = refl }; room = record { state = λ p o. refl; away = refl; told = still_told m.parts.table.slots } };
   ok = tt;
   fault = off;
   stands = λ well. well;

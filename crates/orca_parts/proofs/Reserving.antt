@@ -16,6 +16,9 @@ use Rattle.actor_table.specs.Changes.{KeepsRoom, OnlyTableRoom}
 use Rattle.actor_table.specs.Slots.{Table, actors_of, slot_at}
 use Rattle.orca_parts.specs.Letters.{FitLetters, count_for, letters_to}
 use Rattle.orca_parts.specs.Touched.{receivers}
+use Rattle.actor_table.specs.Telling.{TableTells}
+use Rattle.actor_table.proofs.Telling.{still_told}
+use Rattle.letter_kinds.proofs.Telling.{tells_then}
 
 -- ---- letters are count_for
 
@@ -98,12 +101,13 @@ pub record Reserves (rest names : List ℕ) (start now : Table) : Type 0 where
   pub fits : (b : ℕ) → is_some (seat_at (actors_of now.slots) b) ≡ true → letters_to b names ≤ (slot_at now.slots b).mail.spare + letters_to b rest
 
 pub still_room : (t : Table) → OnlyTableRoom t t
-still_room t = record { places = refl; letters = refl; actors = refl; away = refl; space = record { spare = refl; room = λ b. omega arith } }
+still_room t = record { places = refl; letters = refl; told = still_told t.slots; actors = refl; away = refl; space = record { spare = refl; room = λ b. omega arith } }
 
 pub more_room : (one two three : Table) → OnlyTableRoom one two → OnlyTableRoom two three → OnlyTableRoom one three
 more_room one two three first second = record {
   places = second.places ∙ first.places;
   letters = second.letters ∙ first.letters;
+  told = tells_then (TableTells one.slots) (TableTells two.slots) (TableTells three.slots) [] first.told second.told;
   actors = second.actors ∙ first.actors;
   away = second.away ∙ first.away;
   space = record { spare = second.space.spare ∙ first.space.spare; room = λ b. omega (arith, first.space.room b, second.space.room b) };

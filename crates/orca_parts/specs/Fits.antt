@@ -3,6 +3,7 @@ use Rattle.std.specs.Prelude.{ℕ, ◌≡◌, ◌<◌, true, false, Bool, List, 
 use Rattle.letter_kinds.specs.Letters.{Letter}
 use Rattle.letter_kinds.specs.declared.note.Note.{Note}
 use Rattle.letter_kinds.specs.Detector.{Token, closed_set}
+use Rattle.letter_kinds.specs.Telling.{TellsOnly}
 use Rattle.cycle_detect.specs.Room.{CanHear, DetectorValue}
 use Rattle.detector_tokens.specs.Room.{Fits}
 use Rattle.detector_tokens.specs.Open.{CanOpen, new_token}
@@ -27,6 +28,7 @@ use Rattle.actor_table.specs.declared.slot.Place.TheVariants.{Home}
 use Rattle.orca_parts.specs.declared.parts.Parts.{Parts}
 use Rattle.orca_parts.specs.Parts.{state_of}
 use Rattle.actor_table.specs.Slots.{actors_of, away_of, slot_at}
+use Rattle.actor_table.specs.Telling.{TableTells}
 use Rattle.orca_parts.specs.Letters.{FitLetters}
 use Rattle.orca_parts.specs.Reaping.{AreHome}
 use Rattle.orca_parts.specs.Touched.{receivers}
@@ -123,6 +125,7 @@ pub record OnlyRoom (old new : Parts) : Type 0 where
   pub state : (program : Program) (options : Options)
       → state_of program options new ≡ state_of program options old
   pub away : away_of new.table.slots ≡ away_of old.table.slots
+  pub told : TellsOnly (TableTells old.table.slots) [] (TableTells new.table.slots)
 
 -- what was found of a turn stays; memory for a letter may come
 pub record KeepsTurn (old new : Parts) : Type 0 where

@@ -2,9 +2,13 @@
 use Rattle.std.specs.Prelude.{ℕ, ◌≡◌, ◌≤◌, ◌+◌, ◌==◌, true, if◌then◌else◌, is_some, unwrap_or, List, [], ◌∷◌, Option}
 use Rattle.std.specs.BTreeMap.{BTreeMap, get}
 use Rattle.std.specs.Ordering.{nat_cmp}
+use Rattle.orca_names.specs.declared.names.Thing.{Thing}
+use Rattle.row_store.specs.Told.{Lying}
+use Rattle.letter_kinds.specs.Telling.{TellsOnly}
 use Rattle.machine_rules.specs.Actors.{Actors, seat_at}
 use Rattle.actor_table.specs.declared.slot.Slot.{Slot}
 use Rattle.actor_table.specs.Slots.{actors_of, away_of, slot_at}
+use Rattle.actor_table.specs.Telling.{TableTells}
 use Rattle.orca_parts.specs.Woken.{IsLowestWoken}
 
 -- how many letters go to an actor, where one goes to each of these
@@ -21,9 +25,11 @@ abbrev pub FitLetters : List ℕ → List Slot → Type 0
 FitLetters names slots = (a : ℕ) → is_some (seat_at (actors_of slots) a) ≡ true
     → letters_to a names ≤ (slot_at slots a).mail.spare
 
--- this becomes of the actors, the same cells are away, and the lowest actor that wakes is told
-pub record Posts (become : Actors → Actors) (old new : List Slot) (lowest : Option ℕ)
-    : Type 0 where
+-- this becomes of the actors, the same cells are away, the lowest actor that wakes is told, and of rows
+-- in blocks nothing is told but what was told before and these
+pub record Posts (become : Actors → Actors) (more : List (Thing × Lying)) (old new : List Slot)
+    (lowest : Option ℕ) : Type 0 where
   pub actors : actors_of new ≡ become (actors_of old)
   pub away : away_of new ≡ away_of old
   pub woken : IsLowestWoken (actors_of old) (actors_of new) lowest
+  pub told : TellsOnly (TableTells old) more (TableTells new)

@@ -1,13 +1,18 @@
 -- An event that is prepared, and then done.
-use Rattle.std.specs.Prelude.{ℕ, ◌≡◌, Option, IfErr, OnOk}
+use Rattle.std.specs.Prelude.{ℕ, ◌≡◌, List, [], Option, IfErr, OnOk}
 use Rattle.std.specs.declared.result.Result.{Result}
+use Rattle.orca_names.specs.declared.names.Thing.{Thing}
 use Rattle.orca_names.specs.declared.options.Options.{Options}
+use Rattle.row_store.specs.Told.{Lying}
+use Rattle.letter_kinds.specs.Telling.{TellsOnly}
 use Rattle.behaviour_code.specs.declared.code.Program.{Program}
 use Rattle.event_rule.specs.Runs.{Goes}
 use Rattle.event_rule.specs.declared.event.Event.{Event}
 use Rattle.event_rule.specs.declared.event.Event.TheVariants as events
 use Rattle.machine_rules.specs.Next.{next}
+use Rattle.actor_cell.specs.Tells.{told_out}
 use Rattle.actor_table.specs.Slots.{actors_of, away_of}
+use Rattle.actor_table.specs.Telling.{TableTells}
 use Rattle.orca_parts.specs.Away.{KeepsAway}
 use Rattle.orca_parts.specs.Core.{IsAlike, KeepsCore, StandsWell, core_state, next_in}
 use Rattle.orca_parts.specs.Faults.{IsFault}
@@ -43,8 +48,14 @@ pub record Prepares {T : Type 0} (e : Event) (old new : Core) (result : Result T
   pub fault : IfErr result (IsFault (next_in old e) e)
   pub stands : StandsWell old → StandsWell new
 
+-- what the event adds to what is told of rows in blocks: what the letter that was found brings
+abbrev pub told_by : Event → Parts → List (Thing × Lying)
+told_by (events.Go a) m = told_out m.turned
+told_by e m = []
+
 -- the event is done: the state is the one that it leads to, the same cells are away, and the lowest actor
--- that it wakes is told; what was found last stands well still
+-- that it wakes is told; what was found last stands well still; and of rows in blocks nothing is told but
+-- what was told before and what the event adds
 pub record Applies (e : Event) (old new : Core) (lowest : Option ℕ) : Type 0 where
   pub state : next (core_state old) e ≡ Goes (core_state new)
   pub alike : IsAlike old new
@@ -52,3 +63,5 @@ pub record Applies (e : Event) (old new : Core) (lowest : Option ℕ) : Type 0 w
   pub woken : IsLowestWoken (actors_of old.parts.table.slots) (actors_of new.parts.table.slots)
       lowest
   pub stands : StandsWell old → StandsWell new
+  pub told : TellsOnly (TableTells old.parts.table.slots) (told_by e old.parts)
+      (TableTells new.parts.table.slots)

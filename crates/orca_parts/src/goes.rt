@@ -9,6 +9,7 @@ ghost use Rattle.machine_rules.specs.Actors.{push_letter, seat};
 ghost use Rattle.machine_rules.specs.Cell.{fresh_cell};
 ghost use Rattle.machine_rules.specs.Options.{Options as choices};
 ghost use Rattle.actor_cell.specs.Cells.{as_cell};
+ghost use Rattle.actor_cell.specs.Tells.{told_out};
 ghost use Rattle.actor_cell.specs.declared.cell.Cell.{Cell as a_cell};
 ghost use Rattle.actor_table.specs.declared.slot.Place.TheVariants.{Home};
 ghost use Rattle.actor_table.specs.Changes.{HasCell};
@@ -18,6 +19,8 @@ ghost use Rattle.actor_cell.specs.Goes.{out_of};
 ghost use Rattle.actor_cell.specs.Moves.{act_in};
 ghost use Rattle.letter_kinds.specs.Letters.{App as app, Inc as inc};
 ghost use Rattle.letter_kinds.specs.Load.{as_load};
+ghost use Rattle.letter_kinds.specs.Telling.{TellsOnly};
+ghost use Rattle.actor_table.specs.Telling.{TableTells};
 ghost use Rattle.orca_parts.specs.Away.{KeepsAway};
 ghost use Rattle.orca_parts.specs.Awaiting.{AwaitsMinted, IsAwaited};
 ghost use Rattle.orca_parts.specs.Faults.{RefusedBy};
@@ -202,6 +205,7 @@ fn make(alloc: Global, code: &Checked, weight: u32, table: &mut ActorTable, kind
         ≡ actors_of table.old.slots ++ seat (fresh_cell weight code.now kind) [] ∷ [] }
     ensures away { KeepsAway (away_of table.old.slots) (away_of table.new.slots) }
     ensures woken { IsLowestWoken (actors_of table.old.slots) (actors_of table.new.slots) (Some result) }
+    ensures told { TellsOnly (TableTells table.old.slots) [] (TableTells table.new.slots) }
 {
     let name = table.next_name();
     let cell = Cell::fresh(alloc, code, name, kind, u64::from(weight));
@@ -222,7 +226,8 @@ fn post_letter(
     requires letter { IsSome found.old.room }
     ensures posts { let load = as_load found.old.load in
         let letter = app behaviour found.old.args load (as_load found.old.rows) in
-        Posts (push_letter to letter) table.old.slots table.new.slots result }
+        Posts (push_letter to letter) (found.old.load ++ found.old.rows)
+        table.old.slots table.new.slots result }
     ensures awaited { found.new.awaited ≡ found.old.awaited }
 {
     post(table, to, found.take_letter(alloc, behaviour))
@@ -237,7 +242,7 @@ fn post_things(
     owner: ActorName,
 ) -> Option<ActorName>
     requires { HasRoomForOne owner table.old.slots }
-    ensures posts { Posts (push_letter owner (inc found.old.things)) table.old.slots table.new.slots result }
+    ensures posts { Posts (push_letter owner (inc found.old.things)) [] table.old.slots table.new.slots result }
     ensures rest { found.new ≡ record found.old { things = found.new.things } }
 {
     let things = found.take_things(alloc);
@@ -257,6 +262,8 @@ fn give_out(alloc: Global, code: &Checked, weight: u32, parts: &mut Parts) -> Op
         → IsAwaited trace code.now parts.new }
     ensures away { KeepsAway (away_of parts.old.table.slots) (away_of parts.new.table.slots) }
     ensures woken { IsLowestWoken (actors_of parts.old.table.slots) (actors_of parts.new.table.slots) result }
+    ensures told { TellsOnly (TableTells parts.old.table.slots) (told_out parts.old.turned)
+        (TableTells parts.new.table.slots) }
 {
     match &parts.turned.doing {
         Doing::Post { to, behaviour } => {

@@ -1,7 +1,8 @@
 // Letters that an event gives out.
 
-ghost use Rattle.std.specs.Prelude.{◌≡◌, ◌==◌, ◌≤◌, ◌<◌, ◌+◌, ◌^◌, ℕ, true, is_some, None, Some, OnOk, IfOk, if◌then◌else◌};
+ghost use Rattle.std.specs.Prelude.{◌≡◌, ◌==◌, ◌≤◌, ◌<◌, ◌+◌, ◌^◌, [], ℕ, true, is_some, None, Some, OnOk, IfOk, if◌then◌else◌};
 ghost use Rattle.letter_kinds.specs.Letters.{as_letter};
+ghost use Rattle.letter_kinds.specs.Telling.{all_brought, brought_in};
 ghost use Rattle.actor_cell.specs.Outs.{decs_to};
 ghost use Rattle.actor_cell.specs.Pushing.{push_all};
 ghost use Rattle.machine_rules.specs.Actors.{push_letter, seat_at};
@@ -101,7 +102,8 @@ pub(crate) fn lower(one: Option<ActorName>, two: Option<ActorName>) -> Option<Ac
 pub(crate) fn post(table: &mut ActorTable, to: ActorName, letter: Letter) -> Option<ActorName>
     requires { is_some (seat_at (actors_of table.old.slots) to) ≡ true
         → 0 < (slot_at table.old.slots to).mail.spare }
-    ensures posts { Posts (push_letter to (as_letter letter)) table.old.slots table.new.slots result }
+    ensures posts { Posts (push_letter to (as_letter letter)) (all_brought (brought_in letter))
+        table.old.slots table.new.slots result }
     ensures room { (b : ℕ) → (slot_at table.old.slots b).mail.spare
         ≤ (slot_at table.new.slots b).mail.spare + (if b == to then 1 else 0) }
 {
@@ -117,7 +119,7 @@ pub(crate) fn push_decs(
     groups: Vec<(ActorName, Amounts)>,
 ) -> Option<ActorName>
     requires { FitLetters (receivers groups.items) table.old.slots }
-    ensures { Posts (push_all (decs_to groups.items)) table.old.slots table.new.slots result }
+    ensures { Posts (push_all (decs_to groups.items)) [] table.old.slots table.new.slots result }
 {
     let mut lowest = None;
     for group in groups {

@@ -1,11 +1,13 @@
 // Reap: the members of a token that all acknowledged go (MAC, OOPSLA 2013).
 
-ghost use Rattle.std.specs.Prelude.{◌≡◌, IfOk, List, ℕ};
+ghost use Rattle.std.specs.Prelude.{◌≡◌, [], IfOk, List, ℕ};
 ghost use Rattle.std.specs.List.Sorted.{IsStrictlySortedBy};
 ghost use Rattle.std.specs.Ordering.{nat_cmp};
 ghost use Rattle.event_rule.specs.declared.event.Event.TheVariants.{Reap as reap_event};
+ghost use Rattle.letter_kinds.specs.Telling.{TellsOnly};
 ghost use Rattle.machine_rules.specs.Detect.{empty_seats, reap_decs};
 ghost use Rattle.actor_table.specs.Slots.{actors_of, away_of};
+ghost use Rattle.actor_table.specs.Telling.{TableTells};
 ghost use Rattle.orca_parts.specs.Fits.{FitsReap, without_all};
 ghost use Rattle.orca_parts.specs.Letters.{FitLetters};
 ghost use Rattle.orca_parts.specs.Ready.{Applies, Prepares};
@@ -70,6 +72,7 @@ fn clear_all(alloc: Global, table: &mut ActorTable, members: &[ActorName])
     ensures away { away_of table.new.slots ≡ without_all members.now (away_of table.old.slots) }
     ensures room { (names : List ℕ) → FitLetters names table.old.slots
         → FitLetters names table.new.slots }
+    ensures told { TellsOnly (TableTells table.old.slots) [] (TableTells table.new.slots) }
 {
     for member in members {
         table.clear(alloc, *member);

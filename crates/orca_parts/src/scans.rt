@@ -1,12 +1,14 @@
 // Scan: the largest closed set becomes a token, and its members are asked (MAC, OOPSLA 2013).
 
-ghost use Rattle.std.specs.Prelude.{◌≡◌, ◌<◌, IfOk, OnOk, ℕ};
+ghost use Rattle.std.specs.Prelude.{◌≡◌, ◌<◌, [], IfOk, OnOk, ℕ};
 ghost use Rattle.std.specs.List.Sorted.{IsStrictlySortedBy};
 ghost use Rattle.std.specs.Ordering.{nat_cmp};
 ghost use Rattle.event_rule.specs.declared.event.Event.TheVariants.{Scan as scan_event};
+ghost use Rattle.letter_kinds.specs.Telling.{TellsOnly};
 ghost use Rattle.machine_rules.specs.Detect.{ask_all};
 ghost use Rattle.actor_table.specs.Changes.{OnlyTableRoom};
 ghost use Rattle.actor_table.specs.Slots.{actors_of, away_of};
+ghost use Rattle.actor_table.specs.Telling.{TableTells};
 ghost use Rattle.cycle_detect.specs.declared.detector.TheConstants.{TOKENS_LIMIT};
 ghost use Rattle.orca_parts.specs.Fits.{CanOpenThen, CanScan};
 ghost use Rattle.orca_parts.specs.Letters.{FitLetters, Posts};
@@ -45,6 +47,7 @@ fn prepare_open(
     requires few { detector.old.state.opened < TOKENS_LIMIT }
     ensures actors { actors_of table.new.slots ≡ actors_of table.old.slots }
     ensures away { away_of table.new.slots ≡ away_of table.old.slots }
+    ensures told { TellsOnly (TableTells table.old.slots) [] (TableTells table.new.slots) }
     ensures state { detector.new.state ≡ detector.old.state }
     ensures ok { IfOk result (λ token. CanOpenThen token table.new.slots detector.new) }
 {
@@ -76,7 +79,7 @@ pub(crate) fn prepare_scan(alloc: Global, m: &mut Core<'_>) -> Result<(), StepFa
 /// Each of these actors is asked whether it is still blocked, and the lowest that is present is told.
 fn ask_all(table: &mut ActorTable, members: &[ActorName], number: u64) -> Option<ActorName>
     requires { FitLetters members.now table.old.slots }
-    ensures { Posts (ask_all members.now number) table.old.slots table.new.slots result }
+    ensures { Posts (ask_all members.now number) [] table.old.slots table.new.slots result }
 {
     let mut lowest = None;
     for member in members {

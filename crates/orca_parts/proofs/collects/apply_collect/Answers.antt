@@ -1,4 +1,4 @@
-use Rattle.std.proofs.Common.{ap, refl, subst, sym, ◌∙◌, set}
+use Rattle.std.proofs.Common.{ap, refl, subst, sym, ◌∙◌, set, []}
 use Rattle.std.specs.Prelude.{is_some}
 use Rattle.machine_rules.specs.Actors.{seat_at}
 use Rattle.actor_cell.specs.Cells.{as_cell}
@@ -15,6 +15,8 @@ use Rattle.orca_parts.proofs.Giving.{changed_present, fits_kept, seat_here}
 use Rattle.orca_parts.proofs.Stepped.{collect_goes}
 use Rattle.orca_parts.proofs.Waking.{woken_changed}
 use Rattle.orca_parts.proofs.collects.apply_collect.Goals as goal
+use Rattle.actor_table.specs.Telling.{TableTells}
+use Rattle.letter_kinds.proofs.Telling.{tells_then}
 
 pub change-requires : goal.change-requires
 change-requires c =
@@ -48,6 +50,7 @@ returns c =
           acts.may (c.into_vec.ensures ∙ c.replace-back.ensures.value ∙ acts.so.back_is) (pushed.actors ∙ ap (push_all (decs_to c.into_vec.result.items)) actors);
       alike = record { code = refl; options = refl };
       away = λ b. ap (λ bs. is_out bs b) (pushed.away ∙ c.change.ensures.rest.away);
+      told = tells_then (TableTells slots) (TableTells c.change.new.self.slots) (TableTells c.push_decs.new.table.slots) [] c.change.ensures.told pushed.told;
       woken = woken_changed (swept trace a) a (actors_of slots) (actors_of c.change.new.self.slots)
           (actors_of c.push_decs.new.table.slots) c.push_decs.result c.change.ensures.actors pushed.woken;
       stands = λ well on. cc;

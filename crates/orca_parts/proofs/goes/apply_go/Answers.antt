@@ -19,6 +19,9 @@ use Rattle.actor_table.proofs.Naming.{can_hold}
 use Rattle.orca_parts.proofs.Gone.{fits_limit, go_goes}
 use Rattle.orca_parts.proofs.Waking.{woken_changed}
 use Rattle.orca_parts.proofs.goes.apply_go.Goals as goal
+use Rattle.actor_table.specs.Telling.{TableTells}
+use Rattle.letter_kinds.proofs.Telling.{tells_then}
+use Rattle.actor_cell.specs.Tells.{told_out}
 
 pub change-requires : goal.change-requires
 change-requires c =
@@ -69,6 +72,7 @@ returns c =
           ∙ sym (gives.state options));
       alike = record { code = refl; options = refl };
       away = λ b. gives.away b ∙ ap (λ bs. is_out bs b) c.change.ensures.rest.away;
+      told = tells_then (TableTells slots) (TableTells c.change.new.self.slots) (TableTells c.give_out.new.parts.table.slots) (told_out t) c.change.ensures.told gives.told;
       woken = woken_changed (λ x. named weight c.next_name.result act (moved a m.turn t.place act x)) a (actors_of slots)
           (actors_of c.change.new.self.slots) (actors_of c.give_out.new.parts.table.slots) c.give_out.result c.change.ensures.actors gives.woken;
       stands = λ well on. gives.awaited options.trace (λ owner mints.

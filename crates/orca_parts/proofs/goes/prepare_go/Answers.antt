@@ -10,12 +10,13 @@ use Rattle.orca_parts.specs.declared.insides.Core.{Core}
 use Rattle.orca_parts.proofs.Prepared.{keeps_then}
 use Rattle.orca_parts.proofs.Preparing.{refused_in, right_fault}
 use Rattle.orca_parts.proofs.goes.prepare_go.Goals as goal
+use Rattle.actor_table.proofs.Telling.{still_told}
 
 pub returns-in_err-find_turn : goal.returns-in_err-find_turn
 returns-in_err-find_turn c =
     let m = c.args.m.now in
     refused_in (Go c.args.a) m c.find_turn.new.m
-    (subst (KeepsCore m) (sym c.find_turn.ensures.same) (record { alike = record { code = refl; options = refl }; room = record { state = λ p o. refl; away = refl } }))
+    (subst (KeepsCore m) (sym c.find_turn.ensures.same) (record { alike = record { code = refl; options = refl }; room = record { state = λ p o. refl; away = refl; told = still_told c.args.m.now.parts.table.slots } }))
     c.find_turn.ensures.stands _ _ (search rules) (right_fault (Go c.args.a) m c.args.a refl _ c.in_err-find_turn.ensures.fault)
 
 pub prepare_turn-requires-clause-found : goal.prepare_turn-requires-clause-found
@@ -32,7 +33,7 @@ returns c =
     record {
       same = keeps_then m mid c.prepare_turn.new.m
           (subst (KeepsCore m) (sym c.find_turn.ensures.same)
-          (record { alike = record { code = refl; options = refl }; room = record { state = λ p o. refl; away = refl } })) does.same;
+          (record { alike = record { code = refl; options = refl }; room = record { state = λ p o. refl; away = refl; told = still_told c.args.m.now.parts.table.slots } })) does.same;
       ok = does.ok;
       fault = subst (λ (x : Core). IfErr c.prepare_turn.result (IsFault (next_in x (Go c.args.a)) (Go c.args.a))) c.find_turn.ensures.same does.fault;
       stands = λ well. does.stands c.find_turn.ensures.stands;

@@ -12,7 +12,7 @@ returns-in_err-reserve_out c =
     let m = c.args.m.now.parts in
     let mid : Parts = record m { table = c.reserve.new.self } in
     let room = only_room_then m mid c.reserve_out.new.parts
-    (table_room m c.reserve.new.self m.turn c.reserve.ensures.actors c.reserve.ensures.rest.away) c.reserve_out.ensures.same in
+    (table_room m c.reserve.new.self m.turn c.reserve.ensures.actors c.reserve.ensures.rest.away c.reserve.ensures.told) c.reserve_out.ensures.same in
     let turn = c.reserve_out.ensures.turn in
     refused_by (Go c.args.a) c.args.m.now c.reserve_out.new.parts room (record { turn = turn.turn; turned = turn.turned }) _ faults.NoMemory (search rules) tt
 
@@ -22,7 +22,7 @@ returns c =
     let m = core.parts in
     let mid : Parts = record m { table = c.reserve.new.self } in
     let room = only_room_then m mid c.reserve_out.new.parts
-    (table_room m c.reserve.new.self m.turn c.reserve.ensures.actors c.reserve.ensures.rest.away) c.reserve_out.ensures.same in
+    (table_room m c.reserve.new.self m.turn c.reserve.ensures.actors c.reserve.ensures.rest.away c.reserve.ensures.told) c.reserve_out.ensures.same in
     let turn = c.reserve_out.ensures.turn in
     prepared (Go c.args.a) core c.reserve_out.new.parts room (record { turn = turn.turn; turned = turn.turned })
     (subst (λ t. FitsGo core.options core.code.now c.args.a t c.reserve_out.new.parts) (sym turn.turned)

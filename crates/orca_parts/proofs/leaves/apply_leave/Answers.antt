@@ -1,4 +1,4 @@
-use Rattle.std.proofs.Common.{List, ℕ, ap, refl, subst, sym, ◌∙◌}
+use Rattle.std.proofs.Common.{List, ℕ, ap, refl, subst, sym, ◌∙◌, []}
 use Rattle.std.specs.Global.{Vec}
 use Rattle.letter_kinds.specs.Counting.{Amount}
 use Rattle.actor_cell.specs.Cells.{as_cell}
@@ -12,6 +12,8 @@ use Rattle.orca_parts.proofs.Homes.{home_stays, without_keeps}
 use Rattle.orca_parts.proofs.Stepped.{leave_goes}
 use Rattle.orca_parts.proofs.Waking.{OnlyLoses, loses_one, woken_without}
 use Rattle.orca_parts.proofs.leaves.apply_leave.Goals as goal
+use Rattle.actor_table.specs.Telling.{TableTells}
+use Rattle.letter_kinds.proofs.Telling.{tells_then}
 
 pub returns : goal.returns
 returns c =
@@ -31,6 +33,7 @@ returns c =
       alike = record { code = refl; options = refl };
       away = λ b. ap (λ bs. is_out bs b) (pushed.away ∙ c.clear.ensures.away)
           ∙ without_keeps (away_of slots) a (home_stays slots a cell acts.home) b;
+      told = tells_then (TableTells slots) (TableTells c.clear.new.self.slots) (TableTells c.push_decs.new.table.slots) [] c.clear.ensures.told pushed.told;
       woken = woken_without letters old (actors_of c.clear.new.self.slots) (actors_of c.push_decs.new.table.slots) c.push_decs.result
           (subst (OnlyLoses old) (sym c.clear.ensures.actors) (loses_one a old)) pushed.actors pushed.woken;
       stands = λ well on. cc;

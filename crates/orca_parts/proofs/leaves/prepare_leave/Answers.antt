@@ -23,7 +23,7 @@ returns c =
     let parts : Parts = record m.parts { table = c.reserve_all.new.table; letters = c.in_ok-letters.letters } in
     let does = c.reserve_all.ensures.same in
     let returns = λ (x : Cell). c.in_ok-letters.letters.items ≡ left_behind c.args.a (as_cell x) in
-    prepared (Leave c.args.a) m parts (only_room m.parts parts refl refl refl does.actors does.away refl) (record { turn = refl; turned = refl })
+    prepared (Leave c.args.a) m parts (only_room m.parts parts refl refl refl does.actors does.away refl does.told) (record { turn = refl; turned = refl })
     (record {
       acts = acts_still (Leave c.args.a) c.args.a slots parts.table.slots returns does.places does.letters
           (acts_here (Leave c.args.a) (slot_at slots c.args.a) c.in-Some.cell.now returns c.in-Some.ensures.cell c.in_ok-letters.ensures);

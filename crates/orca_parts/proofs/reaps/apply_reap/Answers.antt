@@ -1,4 +1,4 @@
-use Rattle.std.proofs.Common.{◌≡◌, List, ℕ, IfSome, ap, refl, subst, sym, ◌∙◌}
+use Rattle.std.proofs.Common.{◌≡◌, List, ℕ, IfSome, ap, refl, subst, sym, ◌∙◌, []}
 use Rattle.std.specs.Global.{Vec}
 use Rattle.letter_kinds.specs.Counting.{Amount}
 use Rattle.letter_kinds.specs.Detector.{close_token}
@@ -16,6 +16,8 @@ use Rattle.orca_parts.specs.Touched.{receivers}
 use Rattle.orca_parts.proofs.Stepped.{reap_goes}
 use Rattle.orca_parts.proofs.Waking.{OnlyLoses, loses_all, woken_without}
 use Rattle.orca_parts.proofs.reaps.apply_reap.Goals as goal
+use Rattle.actor_table.specs.Telling.{TableTells}
+use Rattle.letter_kinds.proofs.Telling.{tells_then}
 
 pub push_decs-woken-requires : goal.push_decs-woken-requires
 push_decs-woken-requires c =
@@ -42,6 +44,8 @@ returns c =
       away = λ a. ap (λ bs. is_out bs a) (pushed.away ∙ c.clear_all.ensures.away)
           ∙ ap (λ ms. is_out (without_all ms (away_of slots)) a) c.as_slice.ensures.value
           ∙ without_all_keeps members (away_of slots) (λ n member. home_stays slots n (c.requires.home n member).cell (c.requires.home n member).home) a;
+      told = tells_then (TableTells slots) (TableTells c.clear_all.new.table.slots) (TableTells c.push_decs-woken.new.table.slots) []
+          c.clear_all.ensures.told pushed.told;
       woken = woken_without letters actors (actors_of c.clear_all.new.table.slots) (actors_of c.push_decs-woken.new.table.slots) c.push_decs-woken.result
           (subst (OnlyLoses actors) (sym c.clear_all.ensures.actors) (loses_all c.as_slice.result.now actors)) pushed.actors pushed.woken;
       stands = λ well on. cc;

@@ -1,8 +1,11 @@
-use Rattle.std.proofs.Common.{◌≤◌, ap, rules, set, subst, sym, ◌∙◌}
+use Rattle.std.proofs.Common.{[], ◌≤◌, ap, rules, set, subst, sym, ◌∙◌}
 use Rattle.std.specs.Prelude.{unwrap_or}
 use Rattle.actor_table.specs.Changes.{CanChange, KeepsRoom}
 use Rattle.actor_table.specs.declared.slot.Slot.{Slot}
 use Rattle.actor_table.specs.Slots.{Table, away_of, is_away}
+use Rattle.actor_table.specs.Telling.{TableTells}
+use Rattle.letter_kinds.specs.Telling.{TellsOnly}
+use Rattle.actor_table.proofs.Telling.{place_tells_in}
 use Rattle.actor_table.proofs.Changing.{bits_follow, change_here, going_on, home_within, inside, part_kept, place_read, room_kept}
 use Rattle.actor_table.proofs.table.ActorTable.change.Goals as goal
 
@@ -41,3 +44,12 @@ returns-clause-rest g c =
       room = subst (λ (t : Table). KeepsRoom t.slots (set slots i x)) c.self.view_is
           (room_kept slots i x (subst (λ (y : Slot). y.mail.spare ≤ x.mail.spare) (sym here) kept.room));
     }
+
+pub returns-clause-told : goal.returns-clause-told
+returns-clause-told g c =
+    let slots = c.self.inside.slots.items in
+    let i = c.a.inside.0 in
+    let x = c.change-taken.new.slot in
+    let can = inside (λ a. CanChange a (g.C.Changes.as_change c.args.change.now)) i _ _ _ c.self.view_is c.a.view_is c.requires in
+    subst (λ (t : Table). TellsOnly (TableTells t.slots) [] (TableTells (set slots i x))) c.self.view_is
+    (place_tells_in slots i x c.index_mut-slot.result.now [] (home_within slots i can.cell can.home) c.index_mut-slot.ensures.value c.change-taken.ensures.told)

@@ -1,10 +1,21 @@
-use Rattle.std.proofs.Common.{ap, rules, ◌∙◌}
+use Rattle.std.proofs.Common.{ap, rules, ◌∙◌, [], subst, set}
 use Rattle.std.specs.Prelude.{unwrap_or}
 use Rattle.actor_table.proofs.Changing.{bits_follow}
 use Rattle.actor_table.proofs.table.ActorTable.lift.Goals as goal
+use Rattle.actor_table.proofs.Telling.{place_tells_in}
+use Rattle.actor_table.specs.Slots.{Table}
+use Rattle.actor_table.specs.Telling.{TableTells}
+use Rattle.letter_kinds.specs.Telling.{TellsOnly}
 
 pub invariant_of-self : goal.invariant_of-self
 invariant_of-self c =
     let s = c.self.inside in
     bits_follow s.slots.items s.acting s.settling c.a.inside.0 c.index_mut-slot.result.now c.lift-lent.new.slot c.self.invariant (search rules) c.index_mut-slot.ensures.value
     (λ its. ap (λ o. unwrap_or o c.a.inside.0) c.lift-lent.ensures.owner ∙ its) c.put_bits.new.acting c.put_bits.new.settling c.put_bits.ensures.acting c.put_bits.ensures.settling
+
+pub returns-clause-told : goal.returns-clause-told
+returns-clause-told c =
+    let slots = c.self.inside.slots.items in
+    let i = c.a.inside.0 in
+    subst (λ (t : Table). TellsOnly (TableTells t.slots) [] (TableTells (set slots i c.lift-lent.new.slot))) c.self.view_is
+    (place_tells_in slots i c.lift-lent.new.slot c.index_mut-slot.result.now [] (search rules) c.index_mut-slot.ensures.value c.lift-lent.ensures.told)

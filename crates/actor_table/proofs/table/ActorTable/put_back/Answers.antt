@@ -1,9 +1,13 @@
-use Rattle.std.proofs.Common.{◌≡◌, Some, ap, rules, sym, true, ◌∙◌}
+use Rattle.std.proofs.Common.{◌≡◌, [], Some, ap, rules, set, subst, sym, true, ◌∙◌}
 use Rattle.std.specs.Prelude.{option_map}
 use Rattle.machine_rules.specs.Actors.{Seat}
 use Rattle.actor_cell.specs.Cells.{as_cell}
+use Rattle.actor_cell.specs.Tells.{Tells}
+use Rattle.letter_kinds.specs.Telling.{TellsOnly}
+use Rattle.actor_table.specs.Telling.{PlaceTells, TableTells}
+use Rattle.actor_table.proofs.Telling.{place_tells, slot_back}
 use Rattle.actor_table.specs.declared.slot.Slot.{Slot}
-use Rattle.actor_table.specs.Slots.{Table, actors_of, is_away, seat_of}
+use Rattle.actor_table.specs.Slots.{Table, actors_of, is_away, seat_of, slot_at}
 use Rattle.actor_table.proofs.Changing.{away_within, bits_follow, inside, part_kept, place_read, seat_back, seat_read}
 use Rattle.actor_table.proofs.table.ActorTable.put_back.Goals as goal
 
@@ -25,3 +29,16 @@ returns-clause-actors c =
     part_kept seat_of slots i c.put_back.new.slot
     (seat_back c.put_back.new.slot _ c.args.cell away same c.put_back.ensures.place (c.put_back.ensures.mail ∙ ap (λ (y : Slot). y.mail) (sym here)))
     ∙ ap (λ (t : Table). actors_of t.slots) c.self.view_is
+
+pub returns-clause-told : goal.returns-clause-told
+returns-clause-told c =
+    let slots = c.self.inside.slots.items in
+    let i = c.a.inside.0 in
+    let x = c.put_back.new.slot in
+    let away = inside (λ _ x. is_away x ≡ true) i _ _ _ c.self.view_is c.a.view_is c.requires.away in
+    let within = away_within slots i away in
+    let its = inside (λ _ x. TellsOnly (PlaceTells x.place) [] (Tells c.args.cell)) i _ _ _ c.self.view_is c.a.view_is c.requires.told in
+    let here = place_read slots i c.index_mut-slot.result.now within c.index_mut-slot.ensures.value in
+    subst (λ (t : Table). TellsOnly (TableTells t.slots) [] (TableTells (set slots i x))) c.self.view_is
+    (place_tells slots i x [] within
+    (slot_back x (slot_at slots i) c.args.cell c.put_back.ensures.place (c.put_back.ensures.mail ∙ ap (λ (y : Slot). y.mail) (sym here)) its))
