@@ -1,8 +1,7 @@
 -- What is told of rows that are remembered.
-use Rattle.std.proofs.Common.{◌≡◌, ℕ, List, [], ◌∷◌, Option, Some, None, IsSome, true, ◌&&◌, get_or, refl, sym, ap, ◌∙◌, subst}
+use Rattle.std.proofs.Common.{◌≡◌, ℕ, List, [], ◌∷◌, Option, Some, None, IsSome, true, ◌&&◌, refl, sym, ap, ◌∙◌, subst}
 use Rattle.std.specs.Prelude.{map}
 use Rattle.std.proofs.lemmas.Bool.{eq-eqb}
-use Rattle.std.proofs.lemmas.List.Elements.{All-map}
 use Rattle.orca_names.specs.declared.names.ObjName.{ObjName}
 use Rattle.orca_names.specs.declared.names.Thing.{Thing}
 use Rattle.orca_names.specs.declared.names.Thing.TheVariants.{Actor, Obj}
@@ -11,7 +10,7 @@ use Rattle.row_store.specs.declared.told.Told.{Told}
 use Rattle.row_store.specs.declared.told.Told.TheVariants.{Nothing, Here, In}
 use Rattle.row_store.specs.Memory.{is_object}
 use Rattle.row_store.specs.Standing.{AreRemembered}
-use Rattle.row_store.specs.Told.{AreHere, Lying, lie_as, lies_as, row_here, thing_block, thing_lies, thing_row, told_block, told_of, told_row}
+use Rattle.row_store.specs.Told.{Lying, lie_as, lies_as, row_here, thing_block, thing_lies, thing_row, told_block, told_of, told_row}
 
 pub row_told : (memory : ObjName → Option (List Value)) (n : ObjName) (row : List Value) (block : Option ℕ)
     → (IsSome block → memory n ≡ Some row) → told_row memory (Obj n) (told_of row block) ≡ Some row
@@ -83,14 +82,3 @@ all_at_hand rows (e ∷ items) (x ∷ things) lie =
     let row : row_here e.1 ≡ thing_row rows x =
     here_is rows e.0 e.1 ∙ (ap (λ (l : Thing × Lying). at_hand l.1) first ∙ its_row rows x) in
     λ j. (name j, row j) ∷ all_at_hand rows items things others j
-
--- the block of a thing, where no row lies in one
-thing_here : (blocks : ObjName → Option ℕ) → ((n : ObjName) → blocks n ≡ None) → (x : Thing) → thing_block blocks x ≡ None
-thing_here blocks none (Actor a) = refl
-thing_here blocks none (Obj n) = none n
-
--- and then no row of a load lies in one
-pub lie_here : (rows : ObjName → Option (List Value)) (blocks : ObjName → Option ℕ) → ((n : ObjName) → blocks n ≡ None)
-    → (things : List Thing) → AreHere (map (λ x. (x, thing_lies rows blocks x)) things)
-lie_here rows blocks none things =
-    All-map (λ (e : Thing × Lying). e.1.block ≡ None) (λ x. (x, thing_lies rows blocks x)) things (λ i d l. thing_here blocks none (get_or things i d))

@@ -45,16 +45,6 @@ may_split id k some_parts log count passes words rule at =
       parts = omega arith;
     }
 
--- the next word
-pub may_put : (id : ℕ) (k : Known ℕ ℕ) (count w : ℕ) → MayPut Filled id k count count w
-may_put id k count w passes words rule at = record {
-  many_words = length-set words count w ∙ rule.many_words;
-  one_a_turn = rule.one_a_turn;
-  within = rule.within;
-  filled = λ i l. get_or-set_other words count i w 0 (λ e. omega arith) ∙ rule.filled i l;
-  parts = rule.parts;
-}
-
 -- what was put last
 pub put_last : (puts others : List (ℕ × ℕ)) (at w : ℕ) → puts ≡ (at, w) ∷ others → last_put puts at ≡ Some w
 put_last puts others at w is =
