@@ -26,7 +26,7 @@ use Rattle.actor_cell.specs.Cells.{as_cell}
 use Rattle.actor_cell.specs.Goes.{having_made}
 use Rattle.actor_cell.proofs.Marked.{marks_same}
 
-brought_row : (known : Rows) (x : Thing) → entry_row (m.get (uncounted known) x) ≡ m.get known x
+pub brought_row : (known : Rows) (x : Thing) → entry_row (m.get (uncounted known) x) ≡ m.get known x
 brought_row known x = ap entry_row (get-mapped (λ x. bare_entry) known x) ∙ same (m.get known x)
   where
     same : (o : Option Row) → entry_row (option_map bare_entry o) ≡ o

@@ -1,128 +1,59 @@
--- Tables none of whose rows lies in a block, and what leaves them so.
-use Rattle.std.proofs.Common.{◌≡◌, ℕ, suc, Bool, true, false, cond, List, [], ◌∷◌, Option, Some, None, not, refl, sym, ap, subst, ◌∙◌}
-use Rattle.std.specs.Prelude.{is_some, map, option_and_then}
+-- Tables none of whose rows lies in a block, and cells that tell of no row that it lies in one.
+use Rattle.std.proofs.Common.{◌≡◌, inl, inr, ℕ, ◌==◌, Bool, true, false, cond, Option, Some, None, IsSome, eq-eqb, refl, sym, ap, subst, ◌∙◌}
+use Rattle.std.specs.Prelude.{option_and_then}
 use Rattle.std.specs.FinMap as m
-use Rattle.std.specs.FinMap.{nat_cmp-IsAntisymmetric}
-use Rattle.std.specs.Ordering.{eq_by_cmp, nat_cmp}
-use Rattle.std.specs.Cmp.{nat_cmp_total}
-use Rattle.orca_names.specs.Names.{is_thing}
+use Rattle.std.specs.Ordering.{nat_cmp}
 use Rattle.orca_names.specs.declared.names.ObjName.{ObjName}
-use Rattle.orca_names.specs.declared.names.Thing.{Thing}
-use Rattle.orca_names.proofs.ThingOrder.{thing_total}
-use Rattle.letter_kinds.specs.Counting.{Amount}
+use Rattle.orca_names.specs.declared.names.Thing.TheVariants.{Obj}
+use Rattle.row_store.specs.Standing.{AreRemembered}
 use Rattle.letter_kinds.specs.Holdings.{Row}
-use Rattle.object_heap.specs.Free.{freed, stays}
-use Rattle.object_heap.specs.Heap.{Heap, add_blocks, with_new}
+use Rattle.object_heap.specs.Heap.{Heap, own_block, own_row}
 use Rattle.object_heap.specs.Heap as heaps
-use Rattle.foreign_table.specs.Back.{given_up, goes_back}
-use Rattle.foreign_table.specs.Table.{Table, entered, no_table}
+use Rattle.foreign_table.specs.Table.{Table, no_table}
 use Rattle.foreign_table.specs.Table as tables
 use Rattle.foreign_table.proofs.Here.{none_here}
-use Rattle.foreign_table.proofs.Mapped.{alike}
-use Rattle.row_table.specs.Table.{AllKnownHere, KnownRows, learnt, nothing_known}
-use Rattle.known_rows.specs.InTurn.{made_in_turn, turn_block}
-use Rattle.known_rows.specs.Known.{block_known}
-use Rattle.known_rows.proofs.Standing.{none_known}
-use Rattle.actor_cell.specs.Here.{AreHere}
+use Rattle.row_table.specs.Table.{KnownRows, nothing_known}
+use Rattle.actor_cell.specs.Tells.{BroughtTells, OwnTells}
+use Rattle.actor_cell.proofs.Tells.{PartsTell}
 
--- ---- one entry, and fewer
-
-here_or : (b : Bool) (o : Option (Option ℕ)) → option_and_then (λ p. p) o ≡ None → option_and_then (λ p. p) (cond b (Some None) o) ≡ None
-here_or true o none = refl
-here_or false o none = none
-
-here_yet : (b : Bool) (o : Option (Option ℕ)) → option_and_then (λ p. p) o ≡ None → option_and_then (λ p. p) (cond b o None) ≡ None
-here_yet true o none = none
-here_yet false o none = refl
-
-put_serial : (blocks : heaps.Blocks) (k : ℕ) → ((q : ℕ) → heaps.block_at blocks q ≡ None) → (q : ℕ) → heaps.block_at (m.insert blocks k None) q ≡ None
-put_serial blocks k here q =
-    ap (option_and_then (λ p. p)) (m.get-insert nat_cmp_total blocks k None q) ∙ here_or (eq_by_cmp nat_cmp q k) (m.get blocks q) (here q)
-
-put_thing : (blocks : tables.Blocks) (x : Thing) → ((q : Thing) → tables.block_at blocks q ≡ None) → (q : Thing) → tables.block_at (m.insert blocks x None) q ≡ None
-put_thing blocks x here q =
-    ap (option_and_then (λ p. p)) (m.get-insert thing_total blocks x None q) ∙ here_or (is_thing q x) (m.get blocks q) (here q)
-
--- of things some stay
-pub fewer_things : (blocks : tables.Blocks) (p : Thing → Bool) → ((q : Thing) → tables.block_at blocks q ≡ None)
-    → (q : Thing) → tables.block_at (m.retain_keys blocks p) q ≡ None
-fewer_things blocks p here q =
-    ap (option_and_then (λ p. p)) (m.get-retain_keys blocks p q (alike p q)) ∙ here_yet (p q) (m.get blocks q) (here q)
-
--- ---- own objects
-
-add_none : (made : List Row) (next : ℕ) (blocks : heaps.Blocks) → ((q : ℕ) → heaps.block_at blocks q ≡ None)
-    → (q : ℕ) → heaps.block_at (add_blocks next (map {B = Option ℕ} (λ _. None) made) blocks) q ≡ None
-unfolding add_blocks
-add_none [] next blocks here q = here q
-add_none (row ∷ made) next blocks here q = add_none made (suc next) (m.insert blocks next None) (put_serial blocks next here) q
-
--- rows at hand are added
-pub all_made : (made : List Row) (h : Heap) → heaps.AllHere h → heaps.AllHere (with_new made (map (λ _. None) made) h)
-all_made made h here q = add_none made h.next h.blocks here q
-
--- some are freed
-pub all_left : (gone : List ObjName) (h : Heap) → heaps.AllHere h → heaps.AllHere (freed gone h)
-all_left gone h here q =
-    ap (option_and_then (λ p. p)) (m.get-retain_keys h.blocks (stays gone) q (λ x e. ap (stays gone) (sym (nat_cmp-IsAntisymmetric q x e))))
-    ∙ here_yet (stays gone q) (m.get h.blocks q) (here q)
-
--- blocks are as before
-pub heap_here : (g h : Heap) → g.blocks ≡ h.blocks → heaps.AllHere h → heaps.AllHere g
-heap_here g h same here q = ap (λ blocks. heaps.block_at blocks q) same ∙ here q
-
--- ---- what is held
-
-pub held_here : (t u : Table) → t.blocks ≡ u.blocks → tables.AllHere u → tables.AllHere t
-held_here t u same here q = ap (λ blocks. tables.block_at blocks q) same ∙ here q
-
-pub given_here : (back : List (ℕ × List Amount)) (t : Table) → tables.AllHere t → tables.AllHere (given_up back t)
-given_here back t here = fewer_things t.blocks (λ x. not (goes_back back x)) here
-
--- ---- what letters brought
-
-pub known_here : (t u : KnownRows) → t.blocks ≡ u.blocks → AllKnownHere u → AllKnownHere t
-known_here t u same here q = ap (λ blocks. tables.block_at blocks q) same ∙ here q
-
--- a row at hand is told, if one is
-pub learnt_here : (x : Thing) (row : Option Row) (t : KnownRows) → AllKnownHere t → AllKnownHere (learnt x row None t)
-learnt_here x None t here = here
-learnt_here x (Some row) t here = put_thing t.blocks x here
-
--- some are forgotten
-pub forgotten_here : (t u : KnownRows) (p : Thing → Bool) → t.blocks ≡ m.retain_keys u.blocks p → AllKnownHere u → AllKnownHere t
-forgotten_here t u p kept here q = ap (λ blocks. tables.block_at blocks q) kept ∙ fewer_things u.blocks p here q
-
--- ---- all three
-
--- at the start
-pub nothing_here : (heap : Heap) (foreign : Table) (known : KnownRows) → heap.blocks ≡ m.empty → foreign ≡ no_table → known ≡ nothing_known → AreHere heap foreign known
-nothing_here heap foreign known own held brought = record {
-  own = λ q. ap (λ blocks. heaps.block_at blocks q) own ∙ ap (option_and_then (λ p. p)) (m.get-empty nat_cmp q);
-  held = λ q. ap (λ (t : Table). tables.block_at t.blocks q) held ∙ none_here q;
-  brought = λ q. ap (λ (t : KnownRows). tables.block_at t.blocks q) brought ∙ none_here q;
-}
-
--- where blocks are as before
-pub still_here : (heap heap' : Heap) (foreign foreign' : Table) (known known' : KnownRows) → heap'.blocks ≡ heap.blocks → foreign'.blocks ≡ foreign.blocks
-    → known'.blocks ≡ known.blocks → AreHere heap foreign known → AreHere heap' foreign' known'
-still_here heap heap' foreign foreign' known known' own held brought here = record {
-  own = heap_here heap' heap own here.own;
-  held = held_here foreign' foreign held here.held;
-  brought = known_here known' known brought here.brought;
-}
-
--- no row lies in a block in a turn either
-pub none_in_turn : (made : List Row) (heap : Heap) (foreign : Table) → heaps.AllHere heap → tables.AllHere foreign
-    → (n : ObjName) → turn_block made heap foreign n ≡ None
-none_in_turn made heap foreign own held n = by (is_some (made_in_turn heap.owner heap.next made n))
+-- nothing is told where own rows and those of what is held are at hand, and nothing is of what was brought
+pub here_tells : (heap : Heap) (foreign : Table) (known : KnownRows) → heaps.AllHere heap → tables.AllHere foreign
+    → ((n : ObjName) (row : Row) (block : ℕ) → BroughtTells known n row block → ⊥)
+    → (n : ObjName) (row : Row) (block : ℕ) → PartsTell heap foreign known n row block → ⊥
+here_tells heap foreign known own held brought n row block (inl told) = by (n.owner == heap.owner) told.1
   where
-    by : (b : Bool) → cond b None (block_known heap foreign n) ≡ None
-    by true = refl
-    by false = none_known heap foreign own held n
+    by : (t : Bool) → cond t (heaps.block_at heap.blocks n.serial) None ≡ Some block → ⊥
+    by true lies = let none = own n.serial in cc
+    by false lies = cc
+here_tells heap foreign known own held brought n row block (inr (inl told)) = let lies = told.1 in let none = held (Obj n) in cc
+here_tells heap foreign known own held brought n row block (inr (inr told)) = brought n row block told
 
--- nor by tables that are these
-pub none_read : (made : List Row) (heap own : Heap) (foreign held : Table) → heap ≡ own → foreign ≡ held → heaps.AllHere own → tables.AllHere held
-    → (n : ObjName) → turn_block made heap foreign n ≡ None
-none_read made heap own foreign held is_own is_held own_here held_here =
-    none_in_turn made heap foreign (subst heaps.AllHere (sym is_own) own_here) (subst tables.AllHere (sym is_held) held_here)
+-- so at the start
+pub fresh_tells : (heap : Heap) (foreign : Table) (known : KnownRows) → heap.blocks ≡ m.empty → foreign ≡ no_table → known ≡ nothing_known
+    → (n : ObjName) (row : Row) (block : ℕ) → PartsTell heap foreign known n row block → ⊥
+fresh_tells heap foreign known own held brought =
+    here_tells heap foreign known
+    (λ q. ap (λ blocks. heaps.block_at blocks q) own ∙ ap (option_and_then (λ p. p)) (m.get-empty nat_cmp q))
+    (λ x. ap (λ (t : Table). tables.block_at t.blocks x) held ∙ none_here x)
+    (λ n row block told. let lies = told.1 in let none = ap (λ (t : KnownRows). tables.block_at t.blocks (Obj n)) brought ∙ none_here (Obj n) in cc)
+
+-- of own objects, where nothing is told all rows are at hand: one that lies in a block is known
+pub own_untold : (h : Heap) (memory : ObjName → Option Row) → AreRemembered (own_row h) (own_block h) memory
+    → ((n : ObjName) (row : Row) (block : ℕ) → OwnTells h n row block → ⊥) → heaps.AllHere h
+own_untold h memory known nothing serial = by (heaps.block_at h.blocks serial) refl
+  where
+    n : ObjName
+    n = record { owner = h.owner; serial = serial }
+
+    its : own_block h n ≡ heaps.block_at h.blocks serial
+    its = ap (λ t. cond t (heaps.block_at h.blocks serial) None) (eq-eqb h.owner h.owner refl)
+
+    told : (block : ℕ) → own_block h n ≡ Some block → (r : Option Row) → own_row h n ≡ r → IsSome r → ⊥
+    told block lies None is some = cc
+    told block lies (Some row) is some = nothing n row block (is, lies)
+
+    by : (o : Option ℕ) → heaps.block_at h.blocks serial ≡ o → o ≡ None
+    by None is = refl
+    by (Some block) is =
+        let lies = its ∙ is in
+        absurd (told block lies (own_row h n) refl (known.there n (subst IsSome (sym lies) refl)))

@@ -7,7 +7,7 @@ use Rattle.orca_names.specs.declared.names.Thing.{Thing}
 use Rattle.letter_kinds.specs.Counting.{Loaded}
 use Rattle.letter_kinds.specs.Holdings.{Row}
 use Rattle.letter_kinds.proofs.Counts.{cond_eq, cond_ne}
-use Rattle.foreign_table.specs.Table.{row_length}
+use Rattle.foreign_table.specs.Table.{length_aside}
 use Rattle.row_table.specs.Table.{KnownRows, Rows, learnt}
 use Rattle.machine_rules.specs.Take.{learn}
 
@@ -39,6 +39,6 @@ learnt_room x (Some row) block t = by (is_some (m.get t.rows x))
     by true = omega arith
     by false = omega arith
 
-pub learnt_values : (x : Thing) (o : Option Row) (t : KnownRows) → t.spare_values ≤ (learnt x o None t).spare_values + row_length o
-learnt_values x None t = omega arith
-learnt_values x (Some row) t = omega arith
+pub learnt_values : (x : Thing) (o : Option Row) (block : Option ℕ) (t : KnownRows) → t.spare_values ≤ (learnt x o block t).spare_values + length_aside o block
+learnt_values x None block t = omega arith
+learnt_values x (Some row) block t = omega arith

@@ -10,6 +10,7 @@ pub mod Parts
 pub mod Posting
 pub mod Registers
 pub mod Reporting
+pub mod Standing
 pub mod Swept
 pub mod Telling
 pub mod Tells

@@ -26,7 +26,6 @@ use Rattle.row_table.specs.Table.{KnownRows, learnt}
 use Rattle.known_rows.specs.Holdings.{holdings_of}
 use Rattle.trace_send.specs.Blocks.{block_received, blocks_received}
 use Rattle.letter_kinds.specs.Telling.{TellsOnly, in_block}
-use Rattle.actor_cell.specs.Here.{AreHere}
 use Rattle.actor_cell.specs.Tells.{BroughtTells, HeldTells, OwnTells}
 use Rattle.actor_cell.proofs.Going.{nowhere}
 
@@ -299,7 +298,7 @@ brought_next rows i e first before now rest all one n row block told = ⊎_elim
 -- ---- all three
 
 -- one of these tells so
-abbrev PartsTell : Heap → Table → KnownRows → ObjName → Row → ℕ → Type 0
+abbrev pub PartsTell : Heap → Table → KnownRows → ObjName → Row → ℕ → Type 0
 PartsTell heap foreign known n row block = OwnTells heap n row block ⊎ (HeldTells foreign n row block ⊎ BroughtTells known n row block)
 
 module _ (heap heap' : Heap) (foreign foreign' : Table) (known known' : KnownRows) where
@@ -338,16 +337,3 @@ module _ (heap heap' : Heap) (foreign foreign' : Table) (known known' : KnownRow
 pub told_before : {A B : Type 0} (x : Thing × Lying) → A ⊎ Contains [] x → (A → B) → B
 told_before x (inl told) then = then told
 told_before x (inr among) then = absurd (omega (arith, among.1))
-
--- ---- where no row lies in a block
-
-own_here : (b : Bool) (o : Option ℕ) (block : ℕ) → o ≡ None → cond b o None ≡ Some block → ⊥
-own_here true o block none told = cc
-own_here false o block none told = cc
-
--- nothing is told
-pub here_untold : (heap : Heap) (foreign : Table) (known : KnownRows) → AreHere heap foreign known
-    → (n : ObjName) (row : Row) (block : ℕ) → PartsTell heap foreign known n row block → ⊥
-here_untold heap foreign known here n row block (inl told) = own_here (n.owner == heap.owner) (heaps.block_at heap.blocks n.serial) block (here.own n.serial) told.1
-here_untold heap foreign known here n row block (inr (inl told)) = own_here true _ block (here.held (Obj n)) told.1
-here_untold heap foreign known here n row block (inr (inr told)) = own_here true _ block (here.brought (Obj n)) told.1

@@ -1,5 +1,5 @@
 -- What an actor's next step of its own is found to be.
-use Rattle.std.specs.Prelude.{ℕ, ◌≡◌, true, false, None, IsSomeAnd}
+use Rattle.std.specs.Prelude.{◌≡◌, true, false, None, IsSomeAnd}
 use Rattle.orca_names.specs.declared.options.Options.{Options}
 use Rattle.behaviour_code.specs.declared.code.Program.{Program}
 use Rattle.actor_cell.specs.declared.cell.Cell.{Cell}

@@ -1,4 +1,3 @@
-pub mod Here
 pub mod Awaiting
 pub mod Cells
 pub mod Finding

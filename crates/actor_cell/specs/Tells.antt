@@ -9,6 +9,8 @@ use Rattle.object_heap.specs.Heap.{Heap, own_block, own_row}
 use Rattle.foreign_table.specs.Table.{Table, block_at, known_block, known_row}
 use Rattle.row_table.specs.Table.{KnownRows}
 use Rattle.actor_cell.specs.declared.cell.Cell.{Cell}
+use Rattle.actor_cell.specs.declared.found.Found.{Found}
+use Rattle.actor_cell.specs.declared.found.Found.TheVariants.{Goes, Collects, Nothing}
 use Rattle.actor_cell.specs.declared.turning.Doing.{Doing}
 use Rattle.actor_cell.specs.declared.turning.Doing.TheVariants.{Post, Mint, New, Print, End, Rest}
 use Rattle.actor_cell.specs.declared.turning.Turned.{Turned}
@@ -31,15 +33,21 @@ abbrev pub Tells : Cell → Telling
 Tells c n row block =
     OwnTells c.heap n row block ⊎ (HeldTells c.foreign n row block ⊎ BroughtTells c.known n row block)
 
--- this, where a letter was found
-abbrev pub told_where : Doing → List (Thing × Lying) → List (Thing × Lying)
-told_where (Post to behaviour) told = told
-told_where (Mint owner) told = []
-told_where (New kind register) told = []
-told_where (Print value) told = []
-told_where End told = []
-told_where Rest told = []
+-- these, where a letter is sent
+abbrev pub where_sent : Doing → List (Thing × Lying) → List (Thing × Lying)
+where_sent (Post to behaviour) brought = brought
+where_sent (Mint owner) brought = []
+where_sent (New kind register) brought = []
+where_sent (Print value) brought = []
+where_sent End brought = []
+where_sent Rest brought = []
 
--- what the letter that was found brings
+-- what the letter that was found brings, where there is one
 abbrev pub told_out : Turned → List (Thing × Lying)
-told_out t = told_where t.doing (t.load ++ t.rows)
+told_out t = where_sent t.doing (t.load ++ t.rows)
+
+-- what the letter of the turn that was found brings, where there is one
+abbrev pub told_found : Found → List (Thing × Lying)
+told_found (Goes turn turned) = told_out turned
+told_found (Collects sweep) = []
+told_found Nothing = []

@@ -6,7 +6,6 @@ ghost use Rattle.orca_names.specs.declared.names.Thing.TheVariants.{Actor as act
 ghost use Rattle.foreign_table.specs.Table.{count_on};
 ghost use Rattle.machine_rules.specs.Cell.{clean_cell, first_cell};
 ghost use Rattle.ref_weights.specs.Limit.{count_limit};
-ghost use Rattle.actor_cell.specs.Here.{AreHere, AreHere-prop};
 
 use behaviour_check::Checked;
 use foreign_table::ForeignTable;
@@ -38,8 +37,6 @@ pub struct Cell {
     pub known: RowTable,
     /// How often the actor itself is held by others and loaded by letters, as far as it was told.
     pub count: OwnCount,
-    // No machine has blocks yet.
-    ghost here: { AreHere heap foreign known } by { AreHere-prop heap foreign known },
 }
 
 impl Cell {

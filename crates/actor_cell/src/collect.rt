@@ -6,7 +6,7 @@ ghost use Rattle.orca_names.specs.declared.trace.Trace.TheVariants.{Deep as deep
 ghost use Rattle.actor_cell.specs.Cells.{as_cell};
 ghost use Rattle.row_store.specs.Words.{SameWords};
 ghost use Rattle.actor_cell.specs.Sweeps.{IsSweep, KnowsOthersOnly, sweep_of, swept};
-ghost use Rattle.letter_kinds.specs.Telling.{TellsOnly};
+ghost use Rattle.letter_kinds.specs.Telling.{HoldsTold, TellsOnly};
 ghost use Rattle.actor_cell.specs.Tells.{Tells};
 
 use crate::cell::Cell;
@@ -21,7 +21,8 @@ use std::alloc::Global;
 impl Cell {
     // What it frees and gives back with deep tracing.
     fn find_deep<W: RowWords>(&self, alloc: Global, words: &mut W) -> Result<Sweep, NoMemory>
-        requires { KnowsOthersOnly self.now }
+        requires others { KnowsOthersOnly self.now }
+        requires stand { HoldsTold (W.known words.old) (Tells self.now) }
         ensures sweep { IfOk result (λ found. found ≡ sweep_of deep self.now) }
         ensures words { SameWords W.known W.places W.beside words.old words.new }
     {
@@ -34,7 +35,8 @@ impl Cell {
 
     // What it frees, gives back and forgets with root-only tracing.
     fn find_roots<W: RowWords>(&self, alloc: Global, words: &mut W) -> Result<Sweep, NoMemory>
-        requires { KnowsOthersOnly self.now }
+        requires others { KnowsOthersOnly self.now }
+        requires stand { HoldsTold (W.known words.old) (Tells self.now) }
         ensures sweep { IfOk result (λ found. found ≡ sweep_of roots self.now) }
         ensures words { SameWords W.known W.places W.beside words.old words.new }
     {
@@ -53,7 +55,8 @@ impl Cell {
         trace: Trace,
         words: &mut W,
     ) -> Result<Sweep, NoMemory>
-        requires { KnowsOthersOnly self.now }
+        requires others { KnowsOthersOnly self.now }
+        requires stand { HoldsTold (W.known words.old) (Tells self.now) }
         ensures sweep { IfOk result (λ found. found ≡ sweep_of trace self.now) }
         ensures words { SameWords W.known W.places W.beside words.old words.new }
     {

@@ -1,10 +1,12 @@
 // What an actor would do next of itself.
 
-ghost use Rattle.std.specs.Prelude.{◌+◌, ◌^◌, ◌<◌, IfOk, IsSome, OnOk};
+ghost use Rattle.std.specs.Prelude.{◌+◌, ◌^◌, ◌<◌, [], IfOk, IsSome, OnOk};
 ghost use Rattle.orca_names.specs.declared.options.Options.{Options as choices};
+ghost use Rattle.letter_kinds.specs.Telling.{HoldsTold, TellsOnly, Told};
 ghost use Rattle.row_store.specs.Words.{SameWords};
 ghost use Rattle.actor_cell.specs.Founds.{IsFound};
 ghost use Rattle.actor_cell.specs.Sweeps.{KnowsOthersOnly};
+ghost use Rattle.actor_cell.specs.Tells.{Tells, told_found};
 
 use crate::cell::Cell;
 use crate::sweeping::Sweep;
@@ -41,8 +43,10 @@ impl Cell {
     ) -> Result<Found, NoMemory>
         requires serials { self.now.heap.next + 1024 < 2 ^ 64 }
         requires others { KnowsOthersOnly self.now }
+        requires stand { HoldsTold (W.known words.old) (Tells self.now) }
         ensures found { let options : choices = record { weight = weight; trace = trace } in
             IfOk result (IsFound options code.now self.now) }
+        ensures told { IfOk result (λ found. TellsOnly (Tells self.now) [] (Told (told_found found))) }
         ensures words { SameWords W.known W.places W.beside words.old words.new }
     {
         let options = Options { weight, trace };
@@ -65,7 +69,9 @@ impl Cell {
     ) -> Result<(), NoMemory>
         requires serials { self.now.heap.next + 1024 < 2 ^ 64 }
         requires others { KnowsOthersOnly self.now }
+        requires stand { HoldsTold (W.known words.old) (Tells self.now) }
         ensures found { OnOk result (IsFound options code.now self.now found.new) }
+        ensures told { OnOk result (TellsOnly (Tells self.now) [] (Told (told_found found.new))) }
         ensures words { SameWords W.known W.places W.beside words.old words.new }
     {
         if self.frame.is_some() {
@@ -91,7 +97,9 @@ impl Cell {
     ) -> Result<(), NoMemory>
         requires running { IsSome self.now.frame }
         requires serials { self.now.heap.next + 1024 < 2 ^ 64 }
+        requires stand { HoldsTold (W.known words.old) (Tells self.now) }
         ensures found { OnOk result (IsFound options code.now self.now found.new) }
+        ensures told { OnOk result (TellsOnly (Tells self.now) [] (Told (told_found found.new))) }
         ensures words { SameWords W.known W.places W.beside words.old words.new }
     {
         if let Found::Goes { turn, turned } = found {

@@ -1,6 +1,6 @@
 // Go: a frame runs up to its next act.
 
-ghost use Rattle.std.specs.Prelude.{◌≡◌, ◌+◌, ◌<◌, ◌≤◌, ◌^◌, false, IfOk, IfSome, IsSome, IsTrue, OnOk, length, map};
+ghost use Rattle.std.specs.Prelude.{◌≡◌, ◌+◌, ◌<◌, ◌≤◌, ◌^◌, [], false, IfOk, IfSome, IsSome, IsTrue, OnOk, length, map};
 ghost use Rattle.orca_names.specs.Names.{owner_of};
 ghost use Rattle.orca_names.specs.declared.trace.Trace.TheVariants.{Deep as deep, Roots as roots};
 ghost use Rattle.machine_rules.specs.Go.{needed, to_need, turn_of_cell};
@@ -13,6 +13,8 @@ ghost use Rattle.actor_cell.specs.Goes.{things_from, FitsRegister};
 ghost use Rattle.actor_cell.specs.Moves.{act_in, Mint as mint};
 ghost use Rattle.letter_kinds.specs.Holdings.{with_made};
 ghost use Rattle.letter_kinds.specs.Load.{as_load};
+ghost use Rattle.letter_kinds.specs.Telling.{HoldsTold, TellsOnly, Told};
+ghost use Rattle.actor_cell.specs.Tells.{Tells, told_out};
 
 use crate::cell::Cell;
 use crate::turning::{Awaited, Doing, Turned};
@@ -91,10 +93,12 @@ impl Sending<'_> {
         found: &mut Turned,
         words: &mut W,
     ) -> Result<(), NoMemory>
-        requires { let h = with_made self.now.made.now (as_cell self.now.cell.now).holdings in
+        requires seen { let h = with_made self.now.made.now (as_cell self.now.cell.now).holdings in
             let me = self.now.cell.now.heap.owner in
             found.old.seen ≡ things_from self.now.options.trace me h found.old.args }
+        requires stand { HoldsTold (W.known words.old) (Tells self.now.cell.now) }
         ensures letter { OnOk result (FindsLetter self.now found.old found.new) }
+        ensures told { OnOk result (TellsOnly (Tells self.now.cell.now) [] (Told (told_out found.new))) }
         ensures words { SameWords W.known W.places W.beside words.old words.new }
     {
         let cell = self.cell;
@@ -128,7 +132,9 @@ impl Sending<'_> {
         found: &mut Turned,
         words: &mut W,
     ) -> Result<(), NoMemory>
+        requires stand { HoldsTold (W.known words.old) (Tells self.now.cell.now) }
         ensures letter { OnOk result (FindsLetter self.now found.old found.new) }
+        ensures told { OnOk result (TellsOnly (Tells self.now.cell.now) [] (Told (told_out found.new))) }
         ensures words { SameWords W.known W.places W.beside words.old words.new }
     {
         let cell = self.cell;
@@ -144,9 +150,12 @@ impl Sending<'_> {
         found: &mut Turned,
         words: &mut W,
     ) -> Result<bool, NoMemory>
-        requires { self.now.options.trace ≡ deep }
+        requires traced { self.now.options.trace ≡ deep }
+        requires stand { HoldsTold (W.known words.old) (Tells self.now.cell.now) }
         ensures done { IfOk result (λ done. IsTrue done → FindsLetter self.now found.old found.new) }
         ensures left { IfOk result (λ done. done ≡ false → found.new ≡ found.old) }
+        ensures told { IfOk result (λ done. IsTrue done
+            → TellsOnly (Tells self.now.cell.now) [] (Told (told_out found.new))) }
         ensures words { SameWords W.known W.places W.beside words.old words.new }
     {
         let cell = self.cell;
@@ -181,7 +190,9 @@ impl Sending<'_> {
         found: &mut Turned,
         words: &mut W,
     ) -> Result<(), NoMemory>
+        requires stand { HoldsTold (W.known words.old) (Tells self.now.cell.now) }
         ensures letter { OnOk result (FindsLetter self.now found.old found.new) }
+        ensures told { OnOk result (TellsOnly (Tells self.now.cell.now) [] (Told (told_out found.new))) }
         ensures words { SameWords W.known W.places W.beside words.old words.new }
     {
         let cell = self.cell;
@@ -206,9 +217,11 @@ impl Cell {
         found: &mut Turned,
         words: &mut W,
     ) -> Result<(), NoMemory>
-        requires { FitsRegister (act_of deed.now turn.now) }
+        requires fits { FitsRegister (act_of deed.now turn.now) }
+        requires stand { HoldsTold (W.known words.old) (Tells self.now) }
         ensures finds { let does = act_of deed.now turn.now in
             OnOk result (Finds options self.now turn.now.made does found.old found.new) }
+        ensures told { OnOk result (TellsOnly (Tells self.now) [] (Told (told_out found.new))) }
         ensures words { SameWords W.known W.places W.beside words.old words.new }
     {
         match *deed {
@@ -275,7 +288,8 @@ impl Cell {
         turn: &mut Turn,
         words: &mut W,
     ) -> Result<Halt<'p>, NoMemory>
-        requires { self.now.heap.next + 1024 < 2 ^ 64 }
+        requires serials { self.now.heap.next + 1024 < 2 ^ 64 }
+        requires stand { HoldsTold (W.known words.old) (Tells self.now) }
         ensures halt { let c = as_cell self.now in
             let first = needed deep code.now self.now.heap.owner c frame.now in
             let stop = turn_of_cell deep code.now self.now.heap.owner c frame.now in
@@ -307,7 +321,8 @@ impl Cell {
         turn: &mut Turn,
         words: &mut W,
     ) -> Result<Halt<'p>, NoMemory>
-        requires { self.now.heap.next + 1024 < 2 ^ 64 }
+        requires serials { self.now.heap.next + 1024 < 2 ^ 64 }
+        requires stand { HoldsTold (W.known words.old) (Tells self.now) }
         ensures halt { let c = as_cell self.now in
             let first = needed roots code.now self.now.heap.owner c frame.now in
             let stop = turn_of_cell roots code.now self.now.heap.owner c frame.now in
@@ -343,7 +358,8 @@ impl Cell {
         turn: &mut Turn,
         words: &mut W,
     ) -> Result<Halt<'p>, NoMemory>
-        requires { self.now.heap.next + 1024 < 2 ^ 64 }
+        requires serials { self.now.heap.next + 1024 < 2 ^ 64 }
+        requires stand { HoldsTold (W.known words.old) (Tells self.now) }
         ensures halt { let c = as_cell self.now in
             let first = needed trace code.now self.now.heap.owner c frame.now in
             let stop = turn_of_cell trace code.now self.now.heap.owner c frame.now in
@@ -373,8 +389,10 @@ impl Cell {
     ) -> Result<(), NoMemory>
         requires running { IsSome self.now.frame }
         requires serials { self.now.heap.next + 1024 < 2 ^ 64 }
+        requires stand { HoldsTold (W.known words.old) (Tells self.now) }
         ensures found { OnOk result (FindsTurn options code.now self.now turn.new found.new) }
         ensures few { OnOk result (length turn.new.made ≤ 1024) }
+        ensures told { OnOk result (TellsOnly (Tells self.now) [] (Told (told_out found.new))) }
         ensures words { SameWords W.known W.places W.beside words.old words.new }
     {
         found.forget_letter();
@@ -421,9 +439,11 @@ impl Cell {
         found: &mut Turned,
         words: &mut W,
     ) -> Result<(), NoMemory>
-        requires { let me = self.now.heap.owner in
+        requires awaits { let me = self.now.heap.owner in
             Awaits options.trace code.now me (as_cell self.now) turn.now found.old letter }
+        requires stand { HoldsTold (W.known words.old) (Tells self.now) }
         ensures found { OnOk result (FindsTurn options code.now self.now turn.now found.new) }
+        ensures told { OnOk result (TellsOnly (Tells self.now) [] (Told (told_out found.new))) }
         ensures words { SameWords W.known W.places W.beside words.old words.new }
     {
         let _code = code;

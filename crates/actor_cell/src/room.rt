@@ -1,7 +1,6 @@
 // Room for what letters bring.
 
 ghost use Rattle.std.specs.Prelude.{◌≡◌, ◌≤◌, OnOk, length};
-ghost use Rattle.letter_kinds.specs.Load.{as_load};
 ghost use Rattle.trace_send.specs.Room.{values_of};
 
 use foreign_table::ForeignTable;
@@ -17,7 +16,7 @@ use trace_send::count_values;
 #[inline(always)]
 pub(crate) fn reserve_load(foreign: &mut ForeignTable, load: &Load) -> Result<(), NoMemory>
     ensures room { OnOk result (length load.now ≤ foreign.new.spare) }
-    ensures values { OnOk result (values_of (as_load load.now) ≤ foreign.new.spare_values) }
+    ensures values { OnOk result (values_of load.now ≤ foreign.new.spare_values) }
     ensures same { foreign.new.entries ≡ foreign.old.entries }
     ensures blocks { foreign.new.blocks ≡ foreign.old.blocks }
 {
@@ -35,7 +34,7 @@ pub(crate) fn reserve_load(foreign: &mut ForeignTable, load: &Load) -> Result<()
 #[inline(always)]
 pub(crate) fn reserve_rows(known: &mut RowTable, rows: &Load) -> Result<(), NoMemory>
     ensures room { OnOk result (length rows.now ≤ known.new.spare) }
-    ensures values { OnOk result (values_of (as_load rows.now) ≤ known.new.spare_values) }
+    ensures values { OnOk result (values_of rows.now ≤ known.new.spare_values) }
     ensures same { known.new.rows ≡ known.old.rows }
     ensures blocks { known.new.blocks ≡ known.old.blocks }
 {

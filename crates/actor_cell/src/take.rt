@@ -52,7 +52,7 @@ impl Cell {
     /// `NoMemory` where memory was refused.
     pub fn reserve_take(&mut self, letter: &Letter, spare: &mut SpareFrame) -> Result<(), NoMemory>
         ensures same { IsSame self.new self.old }
-        ensures room { OnOk result (HasRoomFor (as_letter letter.now) self.new) }
+        ensures room { OnOk result (HasRoomFor (as_letter letter.now) (brought_in letter.now) self.new) }
         ensures told { TellsOnly (CellTells self.old) [] (CellTells self.new) }
     {
         match letter {
@@ -75,10 +75,11 @@ impl Cell {
     pub fn apply_take(&mut self, code: &Checked, letter: &Letter)
         requires idle { self.old.frame ≡ None }
         requires can { CanTake self.old.heap.owner (as_letter letter.now) (as_cell self.old).holdings }
-        requires room { HasRoomFor (as_letter letter.now) self.old }
+        requires room { HasRoomFor (as_letter letter.now) (brought_in letter.now) self.old }
         ensures cell { let me = self.old.heap.owner in
             IsCellOf me (cell_after code.now me (as_letter letter.now) (as_cell self.old)) self.new }
-        ensures told { TellsOnly (CellTells self.old) (all_brought (brought_in letter.now)) (CellTells self.new) }
+        ensures told { let brought = all_brought (brought_in letter.now) in
+            TellsOnly (CellTells self.old) brought (CellTells self.new) }
     {
         let me = self.heap.owner();
         match letter {

@@ -143,7 +143,8 @@ impl Turned {
         requires { IsSome self.old.room }
         ensures letter { as_letter result
             ≡ app behaviour self.old.args (as_load self.old.load) (as_load self.old.rows) }
-        ensures brought { brought_in result ≡ record { load = self.old.load; rows = self.old.rows } }
+        ensures brought { brought_in result
+            ≡ record { load = self.old.load; rows = self.old.rows } }
         ensures awaited { self.new.awaited ≡ self.old.awaited }
     {
         let Some(mut args) = self.room.take() else {

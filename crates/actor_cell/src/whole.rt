@@ -14,7 +14,7 @@ ghost use Rattle.actor_cell.specs.Moves.{act_in};
 ghost use Rattle.actor_cell.specs.Outs.{IsRoomFor, as_out, left_behind, noting, report_of, returning};
 ghost use Rattle.actor_cell.specs.Sweeps.{KnowsOthersOnly, swept};
 ghost use Rattle.actor_cell.specs.Takes.{CanTake};
-ghost use Rattle.letter_kinds.specs.Telling.{TellsOnly, all_brought, brought_in};
+ghost use Rattle.letter_kinds.specs.Telling.{HoldsTold, TellsOnly, all_brought, brought_in};
 ghost use Rattle.actor_cell.specs.Tells.{Tells};
 
 use crate::cell::Cell;
@@ -137,6 +137,7 @@ impl Cell {
         requires can { let options : choices = record { weight = weight; trace = trace } in
             CanGo options code.now self.old.heap.owner (as_cell self.old) }
         requires serials { self.old.heap.next + 1024 < 2 ^ 64 }
+        requires stand { HoldsTold (W.known words.old) (Tells self.old) }
         ensures gone { let options : choices = record { weight = weight; trace = trace } in
             let me = self.old.heap.owner in
             IfOk result (λ out. gone_of options code.now me (as_cell self.old)
@@ -169,7 +170,8 @@ impl Cell {
         trace: Trace,
         words: &mut W,
     ) -> Result<Out, NoMemory>
-        requires { KnowsOthersOnly self.old }
+        requires others { KnowsOthersOnly self.old }
+        requires stand { HoldsTold (W.known words.old) (Tells self.old) }
         ensures cell { let me = self.old.heap.owner in
             OnOk result (as_cell self.new ≡ swept trace me (as_cell self.old)) }
         ensures out { let marked = is_marked trace self.old.heap.owner (as_cell self.old) in

@@ -4,6 +4,8 @@ ghost use Rattle.std.specs.Prelude.{◌≡◌, ◌∷◌, [], IfOk, None};
 ghost use Rattle.actor_cell.specs.Cells.{as_cell};
 ghost use Rattle.foreign_table.specs.Table as tables;
 ghost use Rattle.letter_kinds.specs.Holdings.{nothing_held};
+ghost use Rattle.letter_kinds.specs.Telling.{TellsNothing, Told};
+ghost use Rattle.actor_cell.specs.Tells.{Tells};
 ghost use Rattle.object_heap.specs.Heap as heaps;
 
 use crate::going::{are_spare, checked, collects, goes, takes};
@@ -15,7 +17,7 @@ use letter_kinds::{Amounts, Letter, Load, Note, SentArgs};
 use object_heap::ObjectHeap;
 use orca_names::{ActorName, Args, NoMemory, ObjName, Row, Serial, Thing, Value};
 use plain_list::Listed;
-use row_store::{Remembered, Told};
+use row_store::{Remembered, Told as ToldRow};
 use std::alloc::Global;
 use std::test::Fail;
 
@@ -54,11 +56,13 @@ fn nine() -> Row {
 }
 
 /// What the letter that gives the first actor's object and the last actor loads.
-fn given_load(alloc: Global) -> Result<Load, Fail> {
+fn given_load(alloc: Global) -> Result<Load, Fail>
+    ensures { IfOk result (λ load. TellsNothing (Told load)) }
+{
     let mut load = Listed::new(alloc);
-    load.push((FIRST, Told::Nothing))?;
-    load.push((Thing::Obj(object_of(0)), Told::Here(nine())))?;
-    load.push((LAST, Told::Nothing))?;
+    load.push((FIRST, ToldRow::Nothing))?;
+    load.push((Thing::Obj(object_of(0)), ToldRow::Here(nine())))?;
+    load.push((LAST, ToldRow::Nothing))?;
     Ok(Load::with(load, Remembered::new()))
 }
 
@@ -88,12 +92,12 @@ fn lowers(out: &(ActorName, Letter), to: u32, want: &[(Thing, u64)]) -> bool {
 }
 
 /// Whether a load is the first actor and its object with the row.
-fn is_passed(load: &[(Thing, Told)]) -> bool {
+fn is_passed(load: &[(Thing, ToldRow)]) -> bool {
     let [first, object] = load else {
         return false;
     };
     let has_row =
-        matches!(&object.1, Told::Here(row) if row.as_slice() == [Value::Num(9)].as_slice());
+        matches!(&object.1, ToldRow::Here(row) if row.as_slice() == [Value::Num(9)].as_slice());
     first.0 == FIRST && object.0 == Thing::Obj(object_of(0)) && has_row
 }
 
@@ -118,6 +122,8 @@ fn place_of(cell: &Cell) -> Option<u32> {
 fn gets(alloc: Global, code: &Checked, cell: &mut Cell, behaviour: Name) -> Result<bool, Fail>
     requires idle { cell.old.frame ≡ None }
     requires fresh { (as_cell cell.old).holdings ≡ nothing_held 256 }
+    requires told { TellsNothing (Tells cell.old) }
+    ensures { TellsNothing (Tells cell.new) }
 {
     let load = given_load(alloc)?;
     if !are_spare(&load, cell, 0) {
@@ -136,7 +142,10 @@ fn gets(alloc: Global, code: &Checked, cell: &mut Cell, behaviour: Name) -> Resu
 }
 
 /// Whether the actor mints what it lacks for its letter, and stands where it stood.
-fn mints(alloc: Global, code: &Checked, cell: &mut Cell) -> Result<bool, Fail> {
+fn mints(alloc: Global, code: &Checked, cell: &mut Cell) -> Result<bool, Fail>
+    requires { TellsNothing (Tells cell.old) }
+    ensures { TellsNothing (Tells cell.new) }
+{
     let place = place_of(cell);
     let out = goes(alloc, code, cell)?;
     let minted = [(FIRST, 256), (Thing::Obj(object_of(0)), 256)];
@@ -145,14 +154,19 @@ fn mints(alloc: Global, code: &Checked, cell: &mut Cell) -> Result<bool, Fail> {
 }
 
 /// Whether the actor sends its letter then.
-fn sends(alloc: Global, code: &Checked, cell: &mut Cell, keep: Name) -> Result<bool, Fail> {
+fn sends(alloc: Global, code: &Checked, cell: &mut Cell, keep: Name) -> Result<bool, Fail>
+    requires { TellsNothing (Tells cell.old) }
+    ensures { TellsNothing (Tells cell.new) }
+{
     let out = goes(alloc, code, cell)?;
     let is_sent = matches!(out.letters.as_slice(), [letter] if passes(letter, keep));
     Ok(is_sent && held(cell) == [256, 256, 1])
 }
 
 /// Whether the actor ends its turn, and gives back all that it holds as it collects.
-fn gives_back(alloc: Global, code: &Checked, cell: &mut Cell) -> Result<bool, Fail> {
+fn gives_back(alloc: Global, code: &Checked, cell: &mut Cell) -> Result<bool, Fail>
+    requires { TellsNothing (Tells cell.old) }
+{
     let ended = goes(alloc, code, cell)?.letters.is_empty() && !cell.frame.is_some();
     let out = collects(alloc, cell)?;
     let first = [(FIRST, 256), (Thing::Obj(object_of(0)), 256)];
@@ -165,6 +179,7 @@ fn gives_back(alloc: Global, code: &Checked, cell: &mut Cell) -> Result<bool, Fa
 fn passes_on(alloc: Global, code: &Checked, cell: &mut Cell) -> Result<bool, Fail>
     requires idle { cell.old.frame ≡ None }
     requires fresh { (as_cell cell.old).holdings ≡ nothing_held 256 }
+    requires told { TellsNothing (Tells cell.old) }
 {
     let give = first_behaviour(code, 1)?;
     let keep = first_behaviour(code, 2)?;
@@ -204,13 +219,17 @@ fn hold_last(foreign: &mut ForeignTable) -> Result<(), Fail>
 {
     foreign.reserve(1)?;
     if foreign.count(LAST) < 1000 {
-        foreign.gain(LAST, &Told::Nothing, &Remembered::new(), COUNT);
+        foreign.gain(LAST, &ToldRow::Nothing, &Remembered::new(), COUNT);
     }
     Ok(())
 }
 
 /// Whether the actor keeps an object that is counted, and gives back what its row names.
-fn keeps_counted(alloc: Global, cell: &mut Cell) -> Result<bool, Fail> {
+fn keeps_counted(alloc: Global, cell: &mut Cell) -> Result<bool, Fail>
+    requires { TellsNothing (Tells cell.old) }
+{
+    // None of its rows lies in a block.
+    cell.untold_are_here();
     own_counted(&mut cell.heap)?;
     hold_last(&mut cell.foreign)?;
     let out = collects(alloc, cell)?;
@@ -272,6 +291,7 @@ enum Scene {
 fn does(alloc: Global, code: &Checked, cell: &mut Cell, scene: Scene) -> Result<bool, Fail>
     requires idle { cell.old.frame ≡ None }
     requires fresh { (as_cell cell.old).holdings ≡ nothing_held 256 }
+    requires told { TellsNothing (Tells cell.old) }
 {
     match scene {
         Scene::PassOn => passes_on(alloc, code, cell),

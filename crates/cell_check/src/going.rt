@@ -7,6 +7,8 @@ ghost use Rattle.actor_cell.specs.Moves.{act_in};
 ghost use Rattle.actor_cell.specs.Takes.{CanTake};
 ghost use Rattle.letter_kinds.specs.Letters.{as_letter};
 ghost use Rattle.letter_kinds.specs.Load.{as_load};
+ghost use Rattle.letter_kinds.specs.Telling.{TellsNothing, Told, all_brought, brought_in};
+ghost use Rattle.actor_cell.specs.Tells.{Tells};
 ghost use Rattle.cell_check.specs.Spare.{AreLow, AreSpare, IsLow, IsSpare};
 ghost use Rattle.turn_rules.specs.Segment as segments;
 
@@ -17,7 +19,7 @@ use foreign_table::ForeignTable;
 use known_rows::KnownPlaces;
 use letter_kinds::{Amounts, Letter, Load};
 use orca_names::{Options, Thing, Trace};
-use row_store::{NoBlocks, Told};
+use row_store::{NoBlocks, Told as ToldRow};
 use std::alloc::Global;
 use std::test::Fail;
 use turn_step::Turn;
@@ -41,6 +43,8 @@ pub(crate) fn takes(
 ) -> Result<Out, Fail>
     requires idle { cell.old.frame ≡ None }
     requires can { CanTake cell.old.heap.owner (as_letter letter) (as_cell cell.old).holdings }
+    requires brought { TellsNothing (Told (all_brought (brought_in letter))) }
+    ensures { TellsNothing (Tells cell.old) → TellsNothing (Tells cell.new) }
 {
     match cell.take(alloc, code, letter) {
         Ok(out) => Ok(out),
@@ -49,7 +53,7 @@ pub(crate) fn takes(
 }
 
 /// Whether another's thing is held so often at least.
-fn is_spare(loaded: &(Thing, Told), cell: &Cell, least: u64) -> bool
+fn is_spare(loaded: &(Thing, ToldRow), cell: &Cell, least: u64) -> bool
     ensures { IsTrue result
         → IsSpare cell.now.heap.owner (as_cell cell.now).holdings least (loaded.now.0, None) }
 {
@@ -117,7 +121,10 @@ fn goes_over(
     cell: &mut Cell,
     turn: &mut Turn,
     found: &mut Turned,
-) -> Result<Out, Fail> {
+) -> Result<Out, Fail>
+    requires { TellsNothing (Tells cell.old) }
+    ensures { TellsNothing (Tells cell.new) }
+{
     if !cell.frame.is_some() || cell.heap.made() > 1000 {
         return Err(Fail::from("it cannot go"));
     }
@@ -133,14 +140,20 @@ fn goes_over(
 }
 
 /// The same, in a turn of its own.
-pub(crate) fn goes(alloc: Global, code: &Checked, cell: &mut Cell) -> Result<Out, Fail> {
+pub(crate) fn goes(alloc: Global, code: &Checked, cell: &mut Cell) -> Result<Out, Fail>
+    requires { TellsNothing (Tells cell.old) }
+    ensures { TellsNothing (Tells cell.new) }
+{
     let mut turn = Turn::new(alloc);
     let mut found = Turned::new(alloc);
     goes_over(alloc, code, cell, &mut turn, &mut found)
 }
 
 /// What the actor gives out as it collects, if it holds others' things alone.
-pub(crate) fn collects(alloc: Global, cell: &mut Cell) -> Result<Out, Fail> {
+pub(crate) fn collects(alloc: Global, cell: &mut Cell) -> Result<Out, Fail>
+    requires { TellsNothing (Tells cell.old) }
+    ensures { TellsNothing (Tells cell.new) }
+{
     if !KnownPlaces::of(&cell.heap, &cell.foreign).holds_others_only() {
         return Err(Fail::from("it holds things of its own"));
     }

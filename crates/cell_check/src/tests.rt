@@ -1,6 +1,8 @@
 // One actor by itself: it takes its first letter, goes on, collects, reports, and leaves.
 
 ghost use Rattle.std.specs.Prelude.{◌≡◌, None};
+ghost use Rattle.letter_kinds.specs.Telling.{TellsNothing};
+ghost use Rattle.actor_cell.specs.Tells.{Tells};
 
 use crate::going::{checked, collects, goes, takes};
 use actor_cell::{Cell, Out};
@@ -22,6 +24,8 @@ fn is_nothing(out: &Out) -> bool {
 /// The idle actor takes a letter for this behaviour, which loads nothing.
 fn take(alloc: Global, code: &Checked, cell: &mut Cell, behaviour: Name) -> Result<(), Fail>
     requires idle { cell.old.frame ≡ None }
+    requires told { TellsNothing (Tells cell.old) }
+    ensures { TellsNothing (Tells cell.new) }
 {
     let letter = Letter::App {
         behaviour,
@@ -37,12 +41,17 @@ fn take(alloc: Global, code: &Checked, cell: &mut Cell, behaviour: Name) -> Resu
 }
 
 /// What the actor prints as it goes on.
-fn go(alloc: Global, code: &Checked, cell: &mut Cell) -> Result<Option<Value>, Fail> {
+fn go(alloc: Global, code: &Checked, cell: &mut Cell) -> Result<Option<Value>, Fail>
+    requires { TellsNothing (Tells cell.old) }
+    ensures { TellsNothing (Tells cell.new) }
+{
     Ok(goes(alloc, code, cell)?.print)
 }
 
 /// Whether it gives nothing back as it collects.
-fn sweeps_alone(alloc: Global, cell: &mut Cell) -> Result<bool, Fail> {
+fn sweeps_alone(alloc: Global, cell: &mut Cell) -> Result<bool, Fail>
+    requires { TellsNothing (Tells cell.old) }
+{
     Ok(collects(alloc, cell)?.letters.is_empty())
 }
 
@@ -54,7 +63,8 @@ fn reports_no_count(alloc: Global, cell: &mut Cell) -> Result<bool, Fail> {
 
 /// Whether it does all its events so, from its start to where it leaves.
 fn does_its_events(alloc: Global, code: &Checked, cell: &mut Cell) -> Result<bool, Fail>
-    requires { cell.old.frame ≡ None }
+    requires idle { cell.old.frame ≡ None }
+    requires told { TellsNothing (Tells cell.old) }
 {
     let Some(start) = code.program().start_name() else {
         return Err(Fail::from("no start"));
@@ -98,7 +108,8 @@ fn prints(
     cell: &mut Cell,
     behaviour: Name,
 ) -> Result<Option<Value>, Fail>
-    requires { cell.old.frame ≡ None }
+    requires idle { cell.old.frame ≡ None }
+    requires told { TellsNothing (Tells cell.old) }
 {
     take(alloc, code, cell, behaviour)?;
     go(alloc, code, cell)

@@ -13,7 +13,7 @@ use Rattle.letter_kinds.specs.Holdings.{Row, entry_count, entry_row}
 use Rattle.orca_names.specs.Names.{is_thing, thing_cmp}
 use Rattle.orca_names.specs.declared.names.ObjName.{ObjName}
 use Rattle.orca_names.specs.declared.names.Thing.{Thing}
-use Rattle.orca_names.specs.declared.names.Thing.TheVariants.{Obj}
+use Rattle.orca_names.specs.declared.names.Thing.TheVariants.{Actor, Obj}
 use Rattle.orca_names.specs.declared.names.Value.{Value}
 use Rattle.orca_names.proofs.ThingOrder.{is_same, thing_exact, thing_total}
 use Rattle.plain_list.proofs.Rising.{value_at_place}
@@ -262,6 +262,30 @@ module _ (memory : ObjName → Option Row) (a b : ℕ) (kept : Kept) (recalled :
     there = λ n lies. subst IsSome (sym (row_of n)) (both n (m.get kept (Obj n)) refl (subst IsSome (block_of n) lies)).0;
     same = λ n lies. (both n (m.get kept (Obj n)) refl (subst IsSome (block_of n) lies)).1 ∙ sym (row_of n);
   }
+
+  -- an actor has no row, and so none that lies in a block
+  actor_here : (q : ℕ) (o : Option (ℕ × Lying)) → m.get kept (Actor q) ≡ o → option_and_then (λ p. p) (option_map (block_seen (Actor q)) o) ≡ None
+  actor_here q None is = refl
+  actor_here q (Some v) is = by v.1.block refl
+    where
+      by : (block : Option ℕ) → v.1.block ≡ block → block ≡ None
+      by None lies = refl
+      by (Some block) lies = absurd (false≢true (recalled (Actor q) v is (subst IsSome (sym lies) refl)))
+
+  -- where nothing tells of a row that it lies in a block, none does
+  pub untold_here : ((n : ObjName) (row : Row) (block : ℕ)
+      → (known_row (seen_by memory a b kept) n ≡ Some row) × (known_block (seen_by memory a b kept) n ≡ Some block) → ⊥)
+      → AllHere (seen_by memory a b kept)
+  untold_here nothing (Actor q) = ap (option_and_then (λ p. p)) (get-mapped block_seen kept (Actor q)) ∙ actor_here q (m.get kept (Actor q)) refl
+  untold_here nothing (Obj n) = by (known_block (seen_by memory a b kept) n) refl
+    where
+      told : (block : ℕ) → known_block (seen_by memory a b kept) n ≡ Some block → (r : Option Row) → known_row (seen_by memory a b kept) n ≡ r → IsSome r → ⊥
+      told block lies None is some = false≢true some
+      told block lies (Some row) is some = nothing n row block (is, lies)
+
+      by : (o : Option ℕ) → known_block (seen_by memory a b kept) n ≡ o → o ≡ None
+      by None lies = refl
+      by (Some block) lies = absurd (told block lies (known_row (seen_by memory a b kept) n) refl (are_remembered.there n (subst IsSome (sym lies) refl)))
 
 -- ---- tables none of whose rows lies in a block
 

@@ -10,6 +10,7 @@ ghost use Rattle.foreign_table.specs.Back.{BackRises, given_up};
 ghost use Rattle.foreign_table.specs.Entry.{amount_of, pair_of};
 ghost use Rattle.foreign_table.specs.Span.{IsSpan};
 ghost use Rattle.foreign_table.specs.Table.{AllHere, DoRise, IsSame, Table, block_at, count_on, count_unheld, counted, entered, kept_in, known_block, known_row, no_table, on_actors, row_length, without};
+ghost use Rattle.letter_kinds.specs.Telling.{TellsNothing};
 ghost use Rattle.letter_kinds.specs.Holdings.{Row as any_row, entry_row};
 ghost use Rattle.row_store.specs.Lent.{IsLent};
 ghost use Rattle.row_store.specs.Memory.{remembered};
@@ -328,6 +329,16 @@ impl ForeignTable {
         ensures { AreRemembered (known_row self.now) (known_block self.now) (remembered result.now) }
     {
         &self.memory
+    }
+
+    /// Where nothing tells of a row that it lies in a block, none does. It serves proofs, and does nothing.
+    #[inline(always)]
+    pub fn untold_are_here(&self)
+        ensures { TellsNothing (λ n row block. (known_row self.now n ≡ Some row)
+            × (known_block self.now n ≡ Some block)) → AllHere self.now }
+    {
+        // Proofs see what the table keeps where it is read.
+        let _kept = &self.memory;
     }
 
     /// How many things are held.

@@ -3,7 +3,7 @@ use Rattle.std.proofs.Common.{inl, inr, ⊎_elim, List, [], arith}
 use Rattle.std.specs.Prelude.{Contains}
 use Rattle.orca_names.specs.declared.names.Thing.{Thing}
 use Rattle.row_store.specs.Told.{Lying}
-use Rattle.letter_kinds.specs.Telling.{Telling, TellsOnly, Told, in_block}
+use Rattle.letter_kinds.specs.Telling.{Telling, TellsOnly, in_block}
 
 -- among none is nothing
 pub none_among : {X : Type 0} (x : X) → Contains [] x → ⊥
@@ -17,11 +17,3 @@ tells_same told more n row block here = inl here
 pub tells_then : (old between new : Telling) (more : List (Thing × Lying)) → TellsOnly old [] between → TellsOnly between more new → TellsOnly old more new
 tells_then old between new more first second n row block told =
     ⊎_elim (λ here. ⊎_elim inl (λ none. absurd (none_among (in_block n row block) none)) (first n row block here)) inr (second n row block told)
-
-pub then_tells : (old between new : Telling) (more : List (Thing × Lying)) → TellsOnly old more between → TellsOnly between [] new → TellsOnly old more new
-then_tells old between new more first second n row block told =
-    ⊎_elim (first n row block) (λ none. absurd (none_among (in_block n row block) none)) (second n row block told)
-
--- what was told before is no more
-pub tells_known : (old new : Telling) (more : List (Thing × Lying)) → TellsOnly old more new → TellsOnly old [] (Told more) → TellsOnly old [] new
-tells_known old new more only known n row block told = ⊎_elim inl (known n row block) (only n row block told)

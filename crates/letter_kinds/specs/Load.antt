@@ -1,5 +1,6 @@
 -- Loads: things with how their rows lie.
-use Rattle.std.specs.Prelude.{ℕ, List, Option, map, refl}
+use Rattle.std.specs.Prelude.{ℕ, List, Option, IsSome, map, refl}
+use Rattle.std.specs.List.{All}
 use Rattle.std.specs.Coded.{Coded, code_by, coded×, coded_ℕ, coded_list, coded_option}
 use Rattle.orca_names.specs.Codes.{coded_row, coded_thing}
 use Rattle.orca_names.specs.declared.names.Thing.{Thing}
@@ -21,3 +22,7 @@ as_loaded e = (e.0, e.1.row)
 -- things with their rows, wherever these lie
 abbrev pub as_load : List (Thing × Lying) → List (Thing × Option (List Value))
 as_load load = map as_loaded load
+
+-- of each that lies in a block the row is known
+abbrev pub AreKnown : List (Thing × Lying) → Type 0
+AreKnown load = All (λ e. IsSome e.1.block → IsSome e.1.row) load

@@ -4,6 +4,7 @@ use Rattle.orca_names.specs.declared.names.ObjName.{ObjName}
 use Rattle.orca_names.specs.declared.names.Thing.{Thing}
 use Rattle.orca_names.specs.declared.names.Thing.TheVariants.{Obj}
 use Rattle.row_store.specs.Told.{Lying}
+use Rattle.row_store.specs.Words.{HoldsRow, IsRow, Words}
 use Rattle.letter_kinds.specs.Holdings.{Row}
 use Rattle.letter_kinds.specs.declared.letter.Letter.{Letter}
 use Rattle.letter_kinds.specs.declared.letter.Letter.TheVariants.{App, Inc, Dec, Confirm}
@@ -28,6 +29,11 @@ TellsOnly old more new = (n : ObjName) (row : Row) (block : ℕ)
 -- nothing is told
 abbrev pub TellsNothing : Telling → Type 0
 TellsNothing told = (n : ObjName) (row : Row) (block : ℕ) → told n row block → ⊥
+
+-- these words are known to hold each row that is told, in its block
+abbrev pub HoldsTold : Words → Telling → Type 0
+HoldsTold known told = (n : ObjName) (row : Row) (block : ℕ)
+    → told n row block → IsRow row × HoldsRow block row known
 
 -- what a letter brings: the things that it loads, and those whose rows it carries uncounted, each with
 -- how its row lies

@@ -2,7 +2,8 @@
 
 ghost use Rattle.std.specs.Prelude.{◌≡◌, [], length};
 ghost use Rattle.row_store.specs.Memory.{remembered};
-ghost use Rattle.row_store.specs.Told.{AreHere, lie_as};
+ghost use Rattle.letter_kinds.specs.Load.{AreKnown};
+ghost use Rattle.row_store.specs.Told.{lie_as};
 
 use orca_names::Thing;
 use plain_list::Listed;
@@ -20,10 +21,10 @@ pub struct Load {
 
 impl Model for Load {
     ghost use Rattle.std.specs.Prelude.{List};
-    ghost use Rattle.letter_kinds.specs.Load.{coded_load};
+    ghost use Rattle.letter_kinds.specs.Load.{AreKnown, coded_load};
     ghost use Rattle.orca_names.specs.declared.names.Thing.{Thing as thing};
     ghost use Rattle.row_store.specs.Memory.{remembered};
-    ghost use Rattle.row_store.specs.Told.{AreHere, Lying, lie_as};
+    ghost use Rattle.row_store.specs.Told.{Lying, lie_as};
 
     ghost Value = { List (thing × Lying) };
 
@@ -31,7 +32,7 @@ impl Model for Load {
 
     ghost view = { λ load. lie_as (remembered load.memory) load.items };
 
-    ghost invariant = { λ load. AreHere (lie_as (remembered load.memory) load.items) };
+    ghost invariant = { λ load. AreKnown (lie_as (remembered load.memory) load.items) };
 }
 
 impl Load {
@@ -45,10 +46,10 @@ impl Load {
         }
     }
 
-    /// These things with what is told of their rows, which are all at hand.
+    /// These things with what is told of their rows; each row in a block is remembered.
     #[inline(always)]
     pub fn with(items: Listed<(Thing, Told)>, memory: Remembered) -> Load
-        requires { AreHere (lie_as (remembered memory) items) }
+        requires { AreKnown (lie_as (remembered memory) items) }
         ensures { result ≡ lie_as (remembered memory) items }
     {
         Load { items, memory }
@@ -65,7 +66,7 @@ impl Load {
     #[inline(always)]
     pub fn parts(&self) -> (&[(Thing, Told)], &Remembered)
         ensures load { lie_as (remembered result.1.now) result.0.now ≡ self.now }
-        ensures here { AreHere self.now }
+        ensures known { AreKnown self.now }
     {
         (self.items.as_slice(), &self.memory)
     }

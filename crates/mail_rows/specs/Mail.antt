@@ -1,8 +1,8 @@
 -- The letters that wait for an actor, as contracts see them.
-use Rattle.std.specs.Prelude.{ℕ, ◌+◌, ◌≡◌, Option, Some, None, List, [], ◌∷◌}
+use Rattle.std.specs.Prelude.{ℕ, ◌+◌, ◌≡◌, Option, Some, None, List, [], ◌∷◌, get_or}
 use Rattle.std.specs.Global.{Box}
 use Rattle.letter_kinds.specs.Letters.{Letter, as_letter}
-use Rattle.letter_kinds.specs.Telling.{Brought, brought_in}
+use Rattle.letter_kinds.specs.Telling.{Brought, brought_in, nothing_brought}
 use Rattle.letter_kinds.specs.declared.letter.Letter as code
 
 -- the letters in the order in which they came, what each of them tells of rows, and for how many more
@@ -11,6 +11,10 @@ pub record Mail : Type 0 where
   pub letters : List Letter
   pub brought : List Brought
   pub spare : ℕ
+
+-- what the first of them brings; nothing where none waits
+abbrev pub first_brought : Mail → Brought
+first_brought mail = get_or mail.brought 0 nothing_brought
 
 -- the letters behind the first, and the room there
 abbrev pub behind : Option (Box Mail) → Mail

@@ -187,7 +187,8 @@ impl MailRow {
     /// The letter at a place, counted from 0.
     pub fn at(&self, i: u64) -> &Letter
         requires { i < length self.now.letters }
-        ensures { slice_get self.now.letters i ≡ Some (as_letter result.now) }
+        ensures letter { slice_get self.now.letters i ≡ Some (as_letter result.now) }
+        ensures brought { slice_get self.now.brought i ≡ Some (brought_in result.now) }
     {
         if i == 0 {
             match &self.first {

@@ -1,2 +1,3 @@
 pub mod ByRoots
+pub mod Lying
 pub mod Together

@@ -2,8 +2,10 @@
 
 ghost use Rattle.std.specs.Prelude.{◌≡◌, [], None, IfOk, OnOk, map};
 ghost use Rattle.letter_kinds.specs.Load.{as_load};
-ghost use Rattle.orca_names.specs.declared.names.ObjName.{ObjName as object_name};
+ghost use Rattle.letter_kinds.specs.Telling.{TellsNothing, Told};
 ghost use Rattle.reach_walk.specs.Marks.{load_lying, marks_of};
+ghost use Rattle.row_store.specs.Memory.{remembered};
+ghost use Rattle.row_store.specs.Standing.{AreRemembered};
 ghost use Rattle.row_store.specs.Told.{thing_row};
 
 use crate::nowhere::NoRows;
@@ -29,15 +31,16 @@ pub fn find_loaded_roots(alloc: Global, args: &Args, things: &mut ThingList) -> 
 /// # Errors
 /// `NoMemory` where memory was refused.
 pub fn without_rows(alloc: Global, things: &[Thing]) -> Result<Load, NoMemory>
-    ensures { IfOk result (λ load.
+    ensures load { IfOk result (λ load.
         as_load load ≡ map (λ x. (x, thing_row (λ n. None) x)) things.now) }
+    ensures told { IfOk result (λ load. TellsNothing (Told load)) }
 {
     let items = with_rows(alloc, things, &mut NoRows)?;
     Ok(Load::with(items, Remembered::new()))
 }
 
 /// What a letter carries uncounted: all that its arguments reach through the rows that the sender
-/// knows, each object with its row, none of which lies in a block.
+/// knows, each object with its row. `memory` has those of these rows that lie in blocks.
 ///
 /// # Errors
 /// `NoMemory` where memory was refused.
@@ -47,7 +50,7 @@ pub fn rows_of<R: TellsRows>(
     known: &mut R,
     memory: Remembered,
 ) -> Result<Load, NoMemory>
-    requires here { (n : object_name) → R.blocks known.old n ≡ None }
+    requires known { AreRemembered (R.rows known.old) (R.blocks known.old) (remembered memory) }
     ensures rows { let lying = load_lying (R.rows known.old) (R.blocks known.old) (R.all known.old) args.now in
         IfOk result (λ rows. rows ≡ lying) }
     ensures same { (R.rows known.new ≡ R.rows known.old) × (R.all known.new ≡ R.all known.old)

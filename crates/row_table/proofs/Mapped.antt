@@ -2,17 +2,19 @@
 use Rattle.std.proofs.Common.{◌≡◌, ℕ, ◌+◌, ◌-◌, arith, Bool, true, false, ◌||◌, cond, [], Option, Some, None, IsSome, refl, sym, ap, ◌∙◌}
 use Rattle.std.specs.Prelude.{is_some, option_map}
 use Rattle.std.specs.FinMap as m
+use Rattle.std.specs.Option.{option_map_or}
 use Rattle.std.proofs.lemmas.Bool.{false≢true}
 use Rattle.std.proofs.lemmas.List.{nil_from_length}
 use Rattle.orca_names.specs.Names.{thing_cmp}
 use Rattle.orca_names.specs.declared.names.ObjName.{ObjName}
 use Rattle.orca_names.specs.declared.names.Thing.{Thing}
+use Rattle.orca_names.specs.declared.names.Thing.TheVariants.{Obj}
 use Rattle.orca_names.proofs.ThingOrder.{thing_exact, thing_total}
-use Rattle.letter_kinds.specs.Holdings.{Entries, Row, entry_count}
+use Rattle.letter_kinds.specs.Holdings.{Entries, Row, entry_count, entry_row}
 use Rattle.row_store.specs.Told.{row_here, told_block, told_row}
 use Rattle.row_store.specs.declared.told.Told.{Told}
 use Rattle.row_store.specs.declared.told.Told.TheVariants.{Nothing, Here, In}
-use Rattle.foreign_table.specs.Table.{Table, entered, length_aside, no_table, values_at}
+use Rattle.foreign_table.specs.Table.{AllHere, Table, block_at, entered, known_block, known_row, length_aside, no_table, values_at}
 use Rattle.foreign_table.proofs.Mapped.{alike, get-mapped, mapped-empty, mapped-insert, mapped-kept}
 use Rattle.row_table.specs.Table.{IsUncounted, KnownRows, Rows, as_held, bare_entry, known_by, learnt, nothing_known, row_in, rows_in, uncounted}
 
@@ -109,3 +111,16 @@ pub row_some : (from : ObjName → Option Row) (x : Thing) (told : Told) → is_
 row_some from x Nothing some whole = absurd (false≢true some)
 row_some from x (Here row) some whole = refl
 row_some from x (In block) some whole = whole refl
+
+-- the row of an entry is that of its thing
+row_told : (o : Option (ℕ × Option Row)) (row : Row) → entry_row o ≡ Some row → option_map row_in o ≡ Some row
+row_told None row is = cc
+row_told (Some e) row is = ap (λ o. Some (option_map_or (λ r. r) o [])) is
+
+-- where nothing tells of a row that it lies in a block, none does
+pub untold_here : (t : Table)
+    → (((n : ObjName) (row : Row) (block : ℕ) → (known_row t n ≡ Some row) × (known_block t n ≡ Some block) → ⊥) → AllHere t)
+    → ((n : ObjName) (row : Row) (block : ℕ) → (m.get (known_by t).rows (Obj n) ≡ Some row) × (block_at t.blocks (Obj n) ≡ Some block) → ⊥)
+    → AllHere t
+untold_here t here nothing = here (λ n row block told.
+    nothing n row block (get-mapped (λ x. row_in) t.entries (Obj n) ∙ row_told (m.get t.entries (Obj n)) row told.0, told.1))

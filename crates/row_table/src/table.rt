@@ -1,11 +1,13 @@
 // The table.
 
-ghost use Rattle.std.specs.Prelude.{◌≡◌, ◌↔◌, ◌<◌, ◌≤◌, not, IfOk, IsSome, IsTrue, MatchOption, OnOk};
+ghost use Rattle.std.specs.Prelude.{◌≡◌, ◌↔◌, ◌<◌, ◌≤◌, not, IfOk, IsSome, IsTrue, MatchOption, OnOk, Some};
 ghost use Rattle.std.specs.FinMap as m;
+ghost use Rattle.orca_names.specs.declared.names.Thing.TheVariants.{Obj as object};
+ghost use Rattle.letter_kinds.specs.Telling.{TellsNothing};
 ghost use Rattle.row_store.specs.Memory.{remembered};
 ghost use Rattle.row_store.specs.Told.{row_here, told_block, told_row};
 ghost use Rattle.foreign_table.specs.Back.{BackRises, goes_back};
-ghost use Rattle.foreign_table.specs.Table.{no_table, row_length};
+ghost use Rattle.foreign_table.specs.Table.{block_at, no_table, row_length};
 ghost use Rattle.row_table.specs.Table.{AllKnownHere, as_held, learnt, nothing_known};
 
 use foreign_table::ForeignTable;
@@ -148,6 +150,17 @@ impl RowTable {
     {
         match &mut self.held {
             Some(held) => held.give_back(gone),
+            None => {}
+        }
+    }
+
+    /// Where nothing tells of a row that it lies in a block, none does. It serves proofs, and does nothing.
+    pub fn untold_are_here(&self)
+        ensures { TellsNothing (λ n row block. (m.get self.now.rows (object n) ≡ Some row)
+            × (block_at self.now.blocks (object n) ≡ Some block)) → AllKnownHere self.now }
+    {
+        match &self.held {
+            Some(held) => held.untold_are_here(),
             None => {}
         }
     }

@@ -1,1 +1,2 @@
 pub mod Here
+mod Loads

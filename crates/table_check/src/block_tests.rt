@@ -3,10 +3,12 @@
 ghost use Rattle.std.specs.Prelude.{◌+◌, ◌<◌, ◌≤◌};
 
 use crate::cases::{Given, makes_all, number_in, object};
+use crate::trace_tests::take;
 use foreign_table::ForeignTable;
 use object_heap::ObjectHeap;
 use orca_names::{ActorName, ObjName, Row, Thing, Value};
 use row_store::{Lent, Remembered, Told};
+use std::alloc::Global;
 
 /// Makes an object whose row lies in a block. Whether there was memory, and no more than a million
 /// were made.
@@ -105,5 +107,25 @@ fn held_things_tell_blocks(rt: HostRuntime) {
     let mut table = ForeignTable::new(rt.alloc());
     let holds = keeps_held(&mut table);
     drop(table);
+    assert!(rt; holds);
+}
+
+/// Whether an actor that takes a letter which tells the block of an object holds it in that block.
+fn takes_block(alloc: Global, heap: &mut ObjectHeap, table: &mut ForeignTable) -> bool {
+    let n = &object(3, 0);
+    let thing = &Thing::Obj(*n);
+    let mut memory = Remembered::new();
+    memory.know(*n, &Row::of(&[Value::Num(7)]));
+    take(alloc, heap, table, thing, &Told::In(6), memory)
+        && matches!(table.entry(*thing), Some((1, Lent::In(6))))
+}
+
+#[test]
+fn letters_are_taken_with_blocks(rt: HostRuntime) {
+    let mut heap = ObjectHeap::new(rt.alloc(), ActorName(1));
+    let mut table = ForeignTable::new(rt.alloc());
+    let holds = takes_block(rt.alloc(), &mut heap, &mut table);
+    drop(table);
+    drop(heap);
     assert!(rt; holds);
 }

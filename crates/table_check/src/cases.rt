@@ -1,9 +1,9 @@
 // What tables of cases write as numbers, what is made of it, and the calls that may want memory.
 
-ghost use Rattle.std.specs.Prelude.{◌≡◌, ◌≤◌, IsTrue};
+ghost use Rattle.std.specs.Prelude.{◌≡◌, ◌≤◌, IsTrue, None};
 ghost use Rattle.foreign_table.specs.Table.{AllHere as AllHeldHere, row_length};
 ghost use Rattle.object_heap.specs.Heap.{AllHere as AllOwnHere};
-ghost use Rattle.row_store.specs.Told.{row_here};
+ghost use Rattle.row_store.specs.Told.{row_here, told_block};
 
 use foreign_table::ForeignTable;
 use object_heap::ObjectHeap;
@@ -88,8 +88,10 @@ pub(crate) fn row_of(values: &[Given]) -> Option<Row> {
     Some(Row::from_args(args))
 }
 
-/// What is told of the row of these values: nothing where there are none.
-pub(crate) fn told_of(values: &[Given]) -> Told {
+/// What is told of the row of these values, which is at hand: nothing where there are none.
+pub(crate) fn told_of(values: &[Given]) -> Told
+    ensures { told_block result ≡ None }
+{
     match row_of(values) {
         Some(row) => Told::Here(row),
         None => Told::Nothing,

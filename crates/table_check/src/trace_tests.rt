@@ -1,8 +1,8 @@
 // What a letter's sender lacks, by what it holds, and what its taker and its sender count.
 
-ghost use Rattle.std.specs.Prelude.{◌≡◌, ◌∷◌, [], IfOk, None};
-ghost use Rattle.letter_kinds.specs.Load.{as_load};
-ghost use Rattle.row_store.specs.Told.{row_here, told_block};
+ghost use Rattle.std.specs.Prelude.{◌≡◌, ◌∷◌, [], IfOk, IsSome};
+ghost use Rattle.row_store.specs.Memory.{remembered};
+ghost use Rattle.row_store.specs.Told.{lies_as, told_block, told_row};
 
 use crate::cases::{
     Amount, Given, Holding, Loaded, Named, are_amounts, gains_all, reserves_one, thing_of, told_of,
@@ -68,26 +68,36 @@ fn the_first_owner_is_told_what_is_lacked(rt: HostRuntime) {
     assert!(rt; holds);
 }
 
-// The load of one thing.
-fn load_with(alloc: Global, thing: &Thing, told: &Told) -> Result<Load, NoMemory>
-    requires { told_block told.now ≡ None }
-    ensures { IfOk result (λ load. as_load load ≡ (thing.now, row_here told.now) ∷ []) }
+// The load of one thing, whose row is remembered where it lies in a block.
+fn load_with(
+    alloc: Global,
+    thing: &Thing,
+    told: &Told,
+    memory: Remembered,
+) -> Result<Load, NoMemory>
+    requires { IsSome (told_block told.now)
+        → IsSome (told_row (remembered memory) thing.now told.now) }
+    ensures { IfOk result (λ load. load ≡ lies_as (remembered memory) (thing.now, told.now) ∷ []) }
 {
     let mut items = Listed::new(alloc);
     items.push((*thing, *told))?;
-    Ok(Load::with(items, Remembered::new()))
+    Ok(Load::with(items, memory))
 }
 
-// The actor takes a letter that loads this thing of another. Whether it could.
-fn take(
+/// The actor takes a letter that loads this thing of another. Whether it could.
+pub(crate) fn take(
     alloc: Global,
     heap: &mut ObjectHeap,
     foreign: &mut ForeignTable,
     thing: &Thing,
     told: &Told,
-) -> bool {
+    memory: Remembered,
+) -> bool
+    requires { IsSome (told_block told.now)
+        → IsSome (told_row (remembered memory) thing.now told.now) }
+{
     let me = heap.owner();
-    if told.block().is_some() || !reserves_one(foreign, told) {
+    if !reserves_one(foreign, told) {
         return false;
     }
     if thing.owner() == me {
@@ -96,7 +106,7 @@ fn take(
     if foreign.count(*thing) > 1000 {
         return false;
     }
-    match load_with(alloc, thing, told) {
+    match load_with(alloc, thing, told, memory) {
         Ok(load) => {
             let mut own = OwnCount::new();
             receive_trace(&load, me, &mut own, heap, foreign);
@@ -121,7 +131,7 @@ fn send(
     if foreign.count(*thing) == 0 {
         return false;
     }
-    match load_with(alloc, thing, told) {
+    match load_with(alloc, thing, told, Remembered::new()) {
         Ok(load) => {
             let mut own = OwnCount::new();
             send_trace(&load, me, &mut own, heap, foreign);
@@ -161,7 +171,7 @@ fn moves_all(
         let moved = if sends {
             send(alloc, heap, foreign, &thing, &told)
         } else {
-            take(alloc, heap, foreign, &thing, &told)
+            take(alloc, heap, foreign, &thing, &told, Remembered::new())
         };
         if !moved {
             return false;

@@ -1,11 +1,10 @@
 -- One thing of a load, in the tables.
-use Rattle.std.proofs.Common.{◌≡◌, ◌≢◌, not, false, eq-eqb, ℕ, ◌+◌, ◌-◌, ◌<◌, ◌≤◌, eqb, true, Option, Some, None, IsSome, List, [], ◌∷◌, length, get_or, drop, refl, sym, ap, ◌∙◌, arith}
+use Rattle.std.proofs.Common.{◌≡◌, ◌≢◌, not, false, eq-eqb, ℕ, ◌+◌, ◌-◌, ◌<◌, ◌≤◌, eqb, true, Option, Some, None, IsSome, List, [], ◌∷◌, length, get_or, drop, refl, sym, ap, subst, ◌∙◌, arith}
 use Rattle.std.specs.Prelude.{is_some}
 use Rattle.std.specs.FinMap as m
 use Rattle.std.proofs.lemmas.Bool.{eqb-true, not-false}
 use Rattle.std.specs.List.{sum_by}
 use Rattle.std.proofs.lemmas.List.{drop_more}
-use Rattle.std.proofs.lemmas.List.Elements.{All-head, All-tail}
 use Rattle.std.proofs.lemmas.List.Sums.{sum_by-cons}
 use Rattle.orca_names.specs.Names.{owner_of}
 use Rattle.orca_names.specs.declared.names.ObjName.{ObjName}
@@ -14,9 +13,9 @@ use Rattle.orca_names.specs.declared.names.Thing.TheVariants.{Actor, Obj}
 use Rattle.letter_kinds.specs.Counting.{Loaded, set_own, set_held, lower, raise, gain, spend, receive, receive_one, send, send_one}
 use Rattle.letter_kinds.specs.Holdings.{Holdings, Row, own_in, held_in, has_own, row_count, entry_count, entry_row}
 use Rattle.ref_weights.specs.Limit.{count_limit}
-use Rattle.letter_kinds.specs.Load.{as_load, as_loaded}
+use Rattle.letter_kinds.specs.Load.{AreKnown}
 use Rattle.orca_names.specs.declared.names.Value.{Value}
-use Rattle.row_store.specs.Told.{AreHere, Lying, lie_as, lies_as, row_here, told_block, told_row}
+use Rattle.row_store.specs.Told.{Lying, lie_as, lies_as, row_here, told_block, told_row}
 use Rattle.row_store.specs.declared.told.Told.{Told}
 use Rattle.row_store.specs.declared.told.Told.TheVariants.{Nothing, Here, In}
 use Rattle.letter_kinds.proofs.Loads.{long_load, seen_at}
@@ -107,25 +106,10 @@ rest_of load i e l is = drop_more load i e l ∙ ap (λ f. f ∷ drop (i + 1) lo
 
 -- the values of what is left of a load are those of its first thing and of the others
 pub values_rest : (load : List (Thing × Lying)) (i : ℕ) (e : Thing × Lying) → drop i load ≡ e ∷ drop (i + 1) load
-    → values_of (as_load (drop i load)) ≡ row_length e.1.row + values_of (as_load (drop (i + 1) load))
-values_rest load i e rest =
-    ap (λ xs. values_of (as_load xs)) rest ∙ sum_by-cons (λ (x : Loaded). row_length x.1) (as_loaded e) (as_load (drop (i + 1) load))
+    → values_of (drop i load) ≡ length_aside e.1.row e.1.block + values_of (drop (i + 1) load)
+values_rest load i e rest = ap values_of rest ∙ sum_by-cons (λ (x : Thing × Lying). length_aside x.1.row x.1.block) e (drop (i + 1) load)
 
 -- ---- rows at hand
-
--- a row that lies in no block is at hand
-pub row_at_hand : (rows : ObjName → Option (List Value)) (x : Thing) (told : Told) → told_block told ≡ None
-    → row_here told ≡ told_row rows x told
-row_at_hand rows x Nothing here = refl
-row_at_hand rows x (Here row) here = refl
-row_at_hand rows x (In block) here = cc
-
--- no more values are at hand than the row has
-pub row_here_le : (rows : ObjName → Option (List Value)) (x : Thing) (told : Told)
-    → row_length (row_here told) ≤ row_length (told_row rows x told)
-row_here_le rows x Nothing = omega arith
-row_here_le rows x (Here row) = omega arith
-row_here_le rows x (In block) = omega arith
 
 -- those at hand lie aside
 pub values_aside : (rows : ObjName → Option (List Value)) (x : Thing) (told : Told)
@@ -134,17 +118,14 @@ values_aside rows x Nothing = refl
 values_aside rows x (Here row) = refl
 values_aside rows x (In block) = refl
 
--- where all rows of a load are at hand, so are their values
-pub values_at_hand : (rows : ObjName → Option (List Value)) (items : List (Thing × Told)) → AreHere (lie_as rows items)
-    → sum_by (λ (e : Thing × Told). row_length (row_here e.1)) items ≡ values_of (as_load (lie_as rows items))
-values_at_hand rows [] here = refl
-values_at_hand rows (e ∷ items) here =
-    let its : Thing × Told → ℕ = λ e. row_length (row_here e.1) in
-    let first : told_block e.1 ≡ None = All-head (λ (l : Thing × Lying). l.1.block ≡ None) (lies_as rows e) (lie_as rows items) here in
-    let others = values_at_hand rows items (All-tail (λ (l : Thing × Lying). l.1.block ≡ None) (lies_as rows e) (lie_as rows items) here) in
-    sum_by-cons its e items
-    ∙ (λ j. row_length (row_at_hand rows e.0 e.1 first j) + others j)
-    ∙ sym (sum_by-cons (λ (x : Loaded). row_length x.1) (as_loaded (lies_as rows e)) (as_load (lie_as rows items)))
+-- so do those of a load
+pub values_at_hand : (rows : ObjName → Option (List Value)) (items : List (Thing × Told))
+    → sum_by (λ (e : Thing × Told). row_length (row_here e.1)) items ≡ values_of (lie_as rows items)
+values_at_hand rows [] = refl
+values_at_hand rows (e ∷ items) =
+    sum_by-cons (λ (e : Thing × Told). row_length (row_here e.1)) e items
+    ∙ (λ j. sym (values_aside rows e.0 e.1) j + values_at_hand rows items j)
+    ∙ sym (sum_by-cons (λ (x : Thing × Lying). length_aside x.1.row x.1.block) (lies_as rows e) (lie_as rows items))
 
 -- what its sender's counts allow is no matter of its row
 pub can_send_bare : (me : ℕ) (e : Loaded) (h : Holdings) → CanSendOne me e h → CanSendOne me (e.0, None) h
@@ -160,9 +141,10 @@ module _ (rows : ObjName → Option (List Value)) (items : List (Thing × Told))
   pub seen_rest : drop i load ≡ lies_as rows e ∷ drop (i + 1) load
   seen_rest = rest_of load i (lies_as rows e) within_load (seen_at rows items load is i e l there)
 
-  -- its row is at hand
-  pub seen_here : AreHere load → told_block e.1 ≡ None
-  seen_here here = ap (λ (x : Thing × Lying). x.1.block) (seen_at rows items load is i e l there) ∙ here i (lies_as rows e) within_load
+  -- its row is known where it lies in a block
+  pub seen_known : AreKnown load → IsSome (told_block e.1) → IsSome (told_row rows e.0 e.1)
+  seen_known known =
+      subst (λ (x : Thing × Lying). IsSome x.1.block → IsSome x.1.row) (sym (seen_at rows items load is i e l there)) (known i (lies_as rows e) within_load)
 
 -- ---- tests on owners
 

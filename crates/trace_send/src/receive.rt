@@ -3,7 +3,7 @@
 ghost use Rattle.std.specs.Prelude.{◌≡◌, ◌+◌, ◌≤◌, IsSome, length};
 ghost use Rattle.letter_kinds.specs.Load.{as_load, as_loaded};
 ghost use Rattle.row_store.specs.Memory.{remembered};
-ghost use Rattle.row_store.specs.Told.{AreHere, lies_as, row_here, told_block, told_row};
+ghost use Rattle.row_store.specs.Told.{lies_as, row_here, told_block, told_row};
 ghost use Rattle.letter_kinds.specs.Counting.{receive, receive_one};
 ghost use Rattle.known_rows.specs.Holdings.{holdings_of};
 ghost use Rattle.foreign_table.specs.Table.{row_length};
@@ -56,8 +56,8 @@ fn receive_thing(
 }
 
 /// The counts of an actor after it took a letter with this load: each own thing one less, each
-/// other's one more. Another's row lies in the block that the load tells of it, if it tells one;
-/// no load does so far. It takes no memory.
+/// other's one more. Another's row lies in the block that the load tells of it, if it tells one.
+/// It takes no memory.
 pub fn receive_trace(
     load: &Load,
     me: ActorName,
@@ -68,15 +68,14 @@ pub fn receive_trace(
     requires mine { heap.old.owner ≡ me }
     requires can { CanReceive me (as_load load.now) (holdings_of own.old heap.old foreign.old) }
     requires room { length load.now ≤ foreign.old.spare }
-    requires values { values_of (as_load load.now) ≤ foreign.old.spare_values }
+    requires values { values_of load.now ≤ foreign.old.spare_values }
     ensures counts { holdings_of own.new heap.new foreign.new
         ≡ receive me (as_load load.now) (holdings_of own.old heap.old foreign.old) }
     ensures heap { (heap.new.owner ≡ heap.old.owner) × (heap.new.spare ≡ heap.old.spare) }
     ensures blocks { (heap.new.blocks ≡ heap.old.blocks)
         × (foreign.new.blocks ≡ blocks_received me load.now foreign.old.blocks) }
-    ensures here { AreHere load.now }
     ensures room { foreign.old.spare ≤ foreign.new.spare + length load.now }
-    ensures values { let its = values_of (as_load load.now) in
+    ensures values { let its = values_of load.now in
         foreign.old.spare_values ≤ foreign.new.spare_values + its }
 {
     let (items, memory) = load.parts();

@@ -1,7 +1,6 @@
 // How much room the rows of a load take.
 
 ghost use Rattle.std.specs.Prelude.{◌≡◌, ◌≤◌, ◌^◌, MatchOption};
-ghost use Rattle.letter_kinds.specs.Load.{as_load};
 ghost use Rattle.row_store.specs.Told.{row_here};
 ghost use Rattle.foreign_table.specs.Table.{row_length};
 ghost use Rattle.trace_send.specs.Room.{values_of};
@@ -20,9 +19,9 @@ fn length_told(told: &Told) -> usize
     }
 }
 
-/// The number of values of all rows that a load tells; `None` exactly where no number holds it.
+/// The number of values of all rows of a load that are at hand; `None` exactly where no number holds it.
 pub fn count_values(load: &Load) -> Option<usize>
-    ensures { let its = values_of (as_load load.now) in
+    ensures { let its = values_of load.now in
         MatchOption result (2 ^ 64 ≤ its) (λ count. count ≡ its) }
 {
     let mut count: usize = 0;

@@ -1,18 +1,14 @@
-use Rattle.std.proofs.Common.{◌≡◌, ◌+◌, ◌≤◌, IsSome, true, false, not, eqb, inl, sym, ap, subst, ◌∙◌}
+use Rattle.std.proofs.Common.{◌≡◌, ◌+◌, ◌≤◌, true, false, not, eqb, inl, sym, ap, subst, ◌∙◌}
 use Rattle.orca_names.specs.Names.{owner_of}
-use Rattle.trace_send.proofs.Steps.{alike, apart, row_at_hand}
+use Rattle.trace_send.proofs.Steps.{alike, apart, values_aside}
 use Rattle.letter_kinds.specs.Load.{as_loaded}
-use Rattle.foreign_table.specs.Table.{row_length}
+use Rattle.foreign_table.specs.Table.{length_aside}
 use Rattle.row_store.specs.Memory.{remembered}
 use Rattle.row_store.specs.Told.{lies_as, told_block, told_row}
-use Rattle.row_table.specs.Table.{AllKnownHere, KnownRows, learnt}
-use Rattle.actor_cell.proofs.Here.{learnt_here}
+use Rattle.row_table.specs.Table.{KnownRows}
 use Rattle.actor_cell.proofs.Learnt.{learn_other, learn_own, learnt_room, learnt_values}
 use Rattle.actor_cell.proofs.Tells.{brought_learnt}
 use Rattle.actor_cell.proofs.learning.learn_one.Goals as goal
-
-pub learn-requires-clause-told : goal.learn-requires-clause-told
-learn-requires-clause-told c = λ some. let none = subst IsSome c.requires.here some in cc
 
 pub returns-then-ne-clause-rows : goal.returns-then-ne-clause-rows
 returns-then-ne-clause-rows c =
@@ -20,12 +16,6 @@ returns-then-ne-clause-rows c =
     let e : not (eqb (owner_of x.0) c.args.me) ≡ true = cc in
     ap (λ (t : KnownRows). t.rows) c.learn.ensures
     ∙ learn_other c.args.me x.0 x.1 (told_block c.args.brought.now.1) c.args.known.now (apart (owner_of x.0) c.args.me e)
-
-pub returns-then-ne-clause-here : goal.returns-then-ne-clause-here
-returns-then-ne-clause-here c = λ here.
-    let x = as_loaded (lies_as (remembered c.args.from.now) c.args.brought.now) in
-    let t = c.args.known.now in
-    subst AllKnownHere (sym (c.learn.ensures ∙ ap (λ block. learnt x.0 x.1 block t) c.requires.here)) (learnt_here x.0 x.1 t here)
 
 pub returns-then-ne-clause-told : goal.returns-then-ne-clause-told
 returns-then-ne-clause-told c =
@@ -41,12 +31,11 @@ returns-then-ne-clause-room c =
 pub returns-then-ne-clause-values : goal.returns-then-ne-clause-values
 returns-then-ne-clause-values c =
     let told = c.args.brought.now in
-    let x = as_loaded (lies_as (remembered c.args.from.now) told) in
+    let rows = remembered c.args.from.now in
     let t = c.args.known.now in
-    let same = row_at_hand (remembered c.args.from.now) told.0 told.1 c.requires.here in
-    subst (λ row. t.spare_values ≤ c.learn.new.self.spare_values + row_length row) (sym same)
-    (subst (λ (u : KnownRows). t.spare_values ≤ u.spare_values + row_length x.1)
-    (sym (c.learn.ensures ∙ ap (λ block. learnt x.0 x.1 block t) c.requires.here)) (learnt_values x.0 x.1 t))
+    subst (λ count. t.spare_values ≤ c.learn.new.self.spare_values + count) (values_aside rows told.0 told.1)
+    (subst (λ (u : KnownRows). t.spare_values ≤ u.spare_values + length_aside (told_row rows told.0 told.1) (told_block told.1))
+    (sym c.learn.ensures) (learnt_values told.0 (told_row rows told.0 told.1) (told_block told.1) t))
 
 pub returns-else-ne-clause-told : goal.returns-else-ne-clause-told
 returns-else-ne-clause-told c = λ n row block told. inl told

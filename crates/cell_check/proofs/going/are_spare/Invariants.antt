@@ -1,4 +1,4 @@
-use Rattle.std.proofs.Common.{◌≤◌, length, take}
+use Rattle.std.proofs.Common.{take}
 use Rattle.std.specs.Prelude.{All}
 use Rattle.letter_kinds.specs.Load.{as_loaded}
 use Rattle.actor_cell.specs.Cells.{as_cell}

@@ -1,12 +1,14 @@
-use Rattle.std.proofs.Common.{◌≡◌, ℕ, Option, None, List, [], ◌∷◌, map, refl, sym, ap, subst, ◌∙◌}
+use Rattle.std.proofs.Common.{◌≡◌, ℕ, Option, Some, None, List, [], ◌∷◌, map, refl, sym, ap, subst, ◌∙◌}
 use Rattle.orca_names.specs.declared.names.ObjName.{ObjName}
 use Rattle.orca_names.specs.declared.names.Thing.{Thing}
 use Rattle.orca_names.specs.declared.names.Value.{Value}
 use Rattle.row_store.specs.Memory.{remembered}
-use Rattle.row_store.specs.Told.{AreHere, Lying, thing_lies, thing_row}
+use Rattle.row_store.specs.Told.{Lying, thing_lies, thing_row}
 use Rattle.row_store.proofs.Standing.{none_remembered}
-use Rattle.row_store.proofs.Telling.{lie_here, lie_same}
-use Rattle.letter_kinds.specs.Load.{as_load}
+use Rattle.row_store.proofs.Telling.{lie_same}
+use Rattle.letter_kinds.specs.Load.{AreKnown, as_load}
+use Rattle.letter_kinds.specs.Telling.{TellsNothing, Told}
+use Rattle.root_trace.proofs.Lying.{lie_known, lying_tells}
 use Rattle.root_trace.proofs.letters.without_rows.Goals as goal
 
 -- no row is known, nor does one lie in a block
@@ -28,12 +30,21 @@ with-requires c =
     let things = c.args.things.now in
     let lie = c.in_ok-items.ensures.load in
     let same = lie_same no_row memory no_block (none_remembered no_row memory no_block (λ n. refl)) c.in_ok-items.items things lie in
-    subst AreHere (sym (same ∙ lie)) (lie_here no_row no_block (λ n. refl) things)
+    subst AreKnown (sym (same ∙ lie)) (lie_known no_row no_block (λ n some. some) things)
 
-pub returns : goal.returns
-returns c =
+pub returns-clause-load : goal.returns-clause-load
+returns-clause-load c =
     let memory = remembered c.new.result in
     let things = c.args.things.now in
     let lie = c.in_ok-items.ensures.load in
     let same = lie_same no_row memory no_block (none_remembered no_row memory no_block (λ n. refl)) c.in_ok-items.items things lie in
     ap as_load (c.with.ensures ∙ same ∙ lie) ∙ lying_loaded things
+
+pub returns-clause-told : goal.returns-clause-told
+returns-clause-told c =
+    let memory = remembered c.new.result in
+    let things = c.args.things.now in
+    let lie = c.in_ok-items.ensures.load in
+    let same = lie_same no_row memory no_block (none_remembered no_row memory no_block (λ n. refl)) c.in_ok-items.items things lie in
+    subst (λ load. TellsNothing (Told load)) (sym (c.with.ensures ∙ same ∙ lie))
+    (λ n row block told. let none : None ≡ Some row = (lying_tells no_row no_block things n row block told).0 in cc)

@@ -1,5 +1,5 @@
 use Rattle.std.proofs.Common.{ap, ◌∙◌}
-use Rattle.row_store.proofs.Standing.{none_stand}
+use Rattle.row_store.proofs.Standing.{none_remembered, none_stand}
 use Rattle.known_rows.specs.Known.{block_known}
 use Rattle.known_rows.specs.declared.known.KnownRows.{KnownRows}
 use Rattle.known_rows.proofs.Standing.{none_known}
@@ -11,7 +11,7 @@ of-requires c =
 
 pub rows_of-requires : goal.rows_of-requires
 rows_of-requires c = record {
-  here = λ n.
+  known = none_remembered _ _ _ (λ n.
       ap (λ (r : KnownRows). block_known r.heap.now r.foreign.now n) c.of.ensures.rows
-      ∙ none_known c.args.heap.now c.gains_all.new.table c.requires.own (c.gains_all.ensures c.requires.held) n;
+      ∙ none_known c.args.heap.now c.gains_all.new.table c.requires.own (c.gains_all.ensures c.requires.held) n);
 }

@@ -1,5 +1,4 @@
 use Rattle.std.proofs.Common.{◌+◌, drop, sym, ap, ◌∙◌, subst, arith}
-use Rattle.std.specs.Prelude.{is_some}
 use Rattle.std.proofs.lemmas.List.{drop_all}
 use Rattle.row_store.specs.Memory.{remembered}
 use Rattle.row_store.specs.Told.{lies_as}
@@ -10,14 +9,13 @@ use Rattle.known_rows.specs.Holdings.{holdings_of}
 use Rattle.trace_send.specs.Blocks.{blocks_received}
 use Rattle.trace_send.specs.Can.{CanReceive}
 use Rattle.trace_send.proofs.Blocks.{blocks_received-cons, blocks_received-nil}
-use Rattle.trace_send.proofs.Steps.{receive-cons, receive-nil, row_here_le, seen_here, seen_rest, values_rest, within_load}
+use Rattle.trace_send.proofs.Steps.{receive-cons, receive-nil, seen_known, seen_rest, values_aside, values_rest, within_load}
 use Rattle.trace_send.proofs.receive.receive_trace.Goals as goal
 
 pub receive_thing-requires-clause-told : goal.receive_thing-requires-clause-told
-receive_thing-requires-clause-told c = λ lies.
+receive_thing-requires-clause-told c =
     let rows = remembered c.parts.result.1.now in
-    let here = seen_here rows c.parts.result.0.now c.args.load.now c.parts.ensures.load c.loop-loaded.loaded-index c.loaded-item.result c.loop-loaded-test.true c.loaded-item.is c.parts.ensures.here in
-    let none = ap is_some here in cc
+    seen_known rows c.parts.result.0.now c.args.load.now c.parts.ensures.load c.loop-loaded.loaded-index c.loaded-item.result c.loop-loaded-test.true c.loaded-item.is c.parts.ensures.known
 
 pub receive_thing-requires-clause-can : goal.receive_thing-requires-clause-can
 receive_thing-requires-clause-can c =
@@ -40,7 +38,7 @@ receive_thing-requires-clause-values c =
     let i = c.loop-loaded.loaded-index in
     let told = c.loaded-item.result in
     let rest = seen_rest rows c.parts.result.0.now load c.parts.ensures.load i told c.loop-loaded-test.true c.loaded-item.is in
-    omega (arith, row_here_le rows told.0 told.1, values_rest load i (lies_as rows told) rest, c.loop-loaded.invariant.values, c.requires.values)
+    omega (arith, values_aside rows told.0 told.1, values_rest load i (lies_as rows told) rest, c.loop-loaded.invariant.values, c.requires.values)
 
 pub loop-loaded-preserved : goal.loop-loaded-preserved
 loop-loaded-preserved c =
@@ -62,7 +60,7 @@ loop-loaded-preserved c =
           ∙ sym (blocks_received-cons c.args.me e (drop (i + 1) load) c.loop-loaded.foreign.blocks)
           ∙ ap (λ xs. blocks_received c.args.me xs c.loop-loaded.foreign.blocks) (sym rest) ∙ c.loop-loaded.invariant.held;
       room = omega (arith, c.receive_thing.ensures.room, c.loop-loaded.invariant.room);
-      values = omega (arith, row_here_le rows told.0 told.1, values_rest load i e rest, c.receive_thing.ensures.values, c.loop-loaded.invariant.values);
+      values = omega (arith, values_aside rows told.0 told.1, values_rest load i e rest, c.receive_thing.ensures.values, c.loop-loaded.invariant.values);
     }
 
 pub returns-clause-counts : goal.returns-clause-counts

@@ -16,5 +16,5 @@ invariant-loop-loaded l = record {
   blocks : l.heap.blocks ≡ l.fn.heap.blocks;
   held : blocks_received l.me (drop l.loaded-index l.load) l.foreign.blocks ≡ blocks_received l.me l.load l.fn.foreign.blocks;
   room : l.fn.foreign.spare ≤ l.foreign.spare + l.loaded-index;
-  values : l.fn.foreign.spare_values + values_of (as_load (drop l.loaded-index l.load)) ≤ l.foreign.spare_values + values_of (as_load l.load);
+  values : l.fn.foreign.spare_values + values_of (drop l.loaded-index l.load) ≤ l.foreign.spare_values + values_of l.load;
 }

@@ -5,9 +5,6 @@ use Rattle.letter_kinds.specs.Counting.{sweep}
 use Rattle.machine_rules.specs.Collect.{is_marked}
 use Rattle.actor_cell.specs.declared.sweeping.Sweep.{Sweep}
 use Rattle.actor_cell.specs.Cells.{as_cell}
-use Rattle.object_heap.specs.Heap as heaps
-use Rattle.foreign_table.specs.Table as tables
-use Rattle.actor_cell.proofs.Here.{all_left, forgotten_here, given_here}
 use Rattle.actor_cell.proofs.Swept.{swept_is, unused_rises, used_stay}
 use Rattle.actor_cell.proofs.Tells.{brought_left, held_given, own_freed, tells_only}
 use Rattle.actor_cell.proofs.cell.Cell.apply_collect.Goals as goal
@@ -39,15 +36,3 @@ returns-clause-told c =
     tells_only s.heap c.apply.new.heap s.foreign c.apply.new.foreign s.known c.forget.new.self [] (own_freed found.plan.free s.heap c.apply.new.heap c.apply.ensures.heap)
     (held_given found.plan.back s.foreign c.apply.new.foreign [] c.apply.ensures.foreign)
     (brought_left s.known c.forget.new.self (λ x. not (goes_back c.as_slice.result.now x)) [] c.forget.ensures.rows c.forget.ensures.blocks)
-
-pub invariant_of-self : goal.invariant_of-self
-invariant_of-self c =
-    let s = c.args.self.now in
-    let found = c.args.found.now in
-    record {
-      here = record {
-        own = subst heaps.AllHere (sym c.apply.ensures.heap) (all_left found.plan.free s.heap s.here.own);
-        held = subst tables.AllHere (sym c.apply.ensures.foreign) (given_here found.plan.back s.foreign s.here.held);
-        brought = forgotten_here c.forget.new.self s.known (λ x. not (goes_back c.as_slice.result.now x)) c.forget.ensures.blocks s.here.brought;
-      };
-    }

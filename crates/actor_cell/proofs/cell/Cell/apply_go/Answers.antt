@@ -1,11 +1,9 @@
 use Rattle.std.proofs.Common.{[], inl, refl, ap, subst, sym, ◌∙◌}
 use Rattle.letter_kinds.specs.Load.{as_load}
-use Rattle.object_heap.specs.Heap.{AllHere}
-use Rattle.actor_cell.proofs.Here.{all_made}
 use Rattle.foreign_table.specs.Table.{block_at}
 use Rattle.known_rows.specs.Holdings.{holdings_of}
 use Rattle.trace_send.specs.Can.{CanMint}
-use Rattle.trace_send.proofs.Blocks.{minted_block, minted_here}
+use Rattle.trace_send.proofs.Blocks.{minted_block}
 use Rattle.trace_send.proofs.Raising.{can_mint_with}
 use Rattle.actor_cell.specs.declared.turning.Doing.{Doing}
 use Rattle.actor_cell.specs.Cells.{as_cell}
@@ -43,25 +41,3 @@ returns-in-Rest-clause-told c =
     let s = c.args.self.now in
     tells_only s.heap c.make_all.new.heap s.foreign s.foreign s.known s.known []
     (own_made c.made.result.now s.heap c.make_all.new.heap c.make_all.ensures) (λ n row block told. inl told) (λ n row block told. inl told)
-
-pub invariant_of-self-in-Rest : goal.invariant_of-self-in-Rest
-invariant_of-self-in-Rest c =
-    let s = c.args.self.now in
-    record {
-      here = record {
-        own = subst AllHere (sym c.make_all.ensures) (all_made c.made.result.now s.heap s.here.own);
-        held = s.here.held;
-        brought = s.here.brought;
-      };
-    }
-
-pub invariant_of-self-in-Mint : goal.invariant_of-self-in-Mint
-invariant_of-self-in-Mint c =
-    let s = c.args.self.now in
-    record {
-      here = record {
-        own = s.here.own;
-        held = minted_here c.args.found.now.things c.mint_counts.new.foreign s.foreign c.mint_counts.ensures.blocks s.here.held;
-        brought = s.here.brought;
-      };
-    }

@@ -7,7 +7,6 @@ use Rattle.letter_kinds.specs.Load.{as_load}
 use Rattle.letter_kinds.specs.Counting.{lower_all, raise_all, receive}
 use Rattle.known_rows.specs.Holdings.{holdings_of}
 use Rattle.trace_send.specs.Can.{CanLower, CanRaise}
-use Rattle.trace_send.proofs.Blocks.{received_here}
 use Rattle.trace_send.proofs.Raising.{can_lower_with, can_raise_with}
 use Rattle.turn_rules.specs.Frames.{frame_for}
 use Rattle.machine_rules.specs.Take.{cell_after, learn}
@@ -16,7 +15,6 @@ use Rattle.actor_cell.specs.Takes.{CanTake}
 use Rattle.letter_kinds.specs.Telling.{all_brought, brought_in, in_block}
 use Rattle.actor_cell.specs.Tells.{Tells}
 use Rattle.actor_cell.proofs.Tells.{SameRows, held_received, own_counted, own_received, same_lowered, same_raised, tells_counted, tells_taken, told_before}
-use Rattle.actor_cell.proofs.Here.{heap_here}
 use Rattle.actor_cell.proofs.cell.Cell.apply_take.Goals as goal
 
 pub returns-in-App-clause-cell : goal.returns-in-App-clause-cell
@@ -99,36 +97,3 @@ returns-in-Dec-clause-told c = λ n row block told.
 
 pub returns-in-Confirm-clause-told : goal.returns-in-Confirm-clause-told
 returns-in-Confirm-clause-told c = λ n row block told. inl told
-
-pub invariant_of-self : goal.invariant_of-self
-invariant_of-self c =
-    let s = c.args.self.now in
-    record {
-      here = record {
-        own = heap_here c.receive_trace.new.heap s.heap c.receive_trace.ensures.blocks.0 s.here.own;
-        held = received_here c.owner-me.result c.in-App.load c.receive_trace.new.foreign s.foreign c.receive_trace.ensures.blocks.1 c.receive_trace.ensures.here s.here.held;
-        brought = c.learn_all.ensures.here s.here.brought;
-      };
-    }
-
-pub invariant_of-self-in-Inc : goal.invariant_of-self-in-Inc
-invariant_of-self-in-Inc c =
-    let s = c.args.self.now in
-    record {
-      here = record {
-        own = heap_here c.raise_counts.new.heap s.heap c.raise_counts.ensures.blocks s.here.own;
-        held = s.here.held;
-        brought = s.here.brought;
-      };
-    }
-
-pub invariant_of-self-in-Dec : goal.invariant_of-self-in-Dec
-invariant_of-self-in-Dec c =
-    let s = c.args.self.now in
-    record {
-      here = record {
-        own = heap_here c.lower_counts.new.heap s.heap c.lower_counts.ensures.blocks s.here.own;
-        held = s.here.held;
-        brought = s.here.brought;
-      };
-    }

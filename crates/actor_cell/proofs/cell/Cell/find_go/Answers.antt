@@ -8,14 +8,20 @@ use Rattle.behaviour_check.specs.Rules.{IsChecked}
 use Rattle.machine_rules.specs.Go.{needed, setting_of, to_need, turn_of_cell}
 use Rattle.actor_cell.specs.Cells.{as_cell}
 use Rattle.orca_names.specs.Names.{owner_of}
+use Rattle.letter_kinds.specs.Telling.{HoldsTold}
+use Rattle.actor_cell.specs.Tells.{Tells}
 use Rattle.actor_cell.specs.Goes.{FitsRegister, IsTold, having_made, told, turned_or_needs}
 use Rattle.actor_cell.specs.Moves.{Mint, Rest, act_in}
 use Rattle.actor_cell.proofs.Telling.{moves_told, rest_told}
 use Rattle.actor_cell.proofs.Registers.{segment_fits}
 use Rattle.actor_cell.proofs.cell.Cell.find_go.Goals as goal
 
-pub move_of-requires : goal.move_of-requires
-move_of-requires g c =
+pub move_of-requires-clause-stand : goal.move_of-requires-clause-stand
+move_of-requires-clause-stand g c =
+    subst (λ known. HoldsTold known (Tells c.args.self.now)) (sym c.run_turn.ensures.words.known) c.requires.stand
+
+pub move_of-requires-clause-fits : goal.move_of-requires-clause-fits
+move_of-requires-clause-fits g c =
     let s = c.args.self.now in
     let code = c.args.code.now in
     let frame = c.in-Some.frame.now in

@@ -1,11 +1,12 @@
-use Rattle.std.proofs.Common.{◌≡◌, ◌∙◌, subst}
+use Rattle.std.proofs.Common.{◌≡◌, ◌∙◌, sym, subst}
 use Rattle.std.specs.Prelude.{OnOk}
-use Rattle.row_store.proofs.Standing.{none_stand}
 use Rattle.reach_walk.specs.Marks.{marks_of}
 use Rattle.letter_kinds.specs.Holdings.{known_objects, row_of, with_made}
+use Rattle.letter_kinds.specs.Telling.{HoldsTold}
 use Rattle.known_rows.specs.Holdings.{holdings_of}
-use Rattle.actor_cell.proofs.Here.{none_read}
+use Rattle.actor_cell.specs.Tells.{Tells}
 use Rattle.actor_cell.proofs.Posting.{things_same}
+use Rattle.actor_cell.proofs.Standing.{told_stand, turn_held}
 use Rattle.actor_cell.proofs.cell.Cell.find_reached.Goals as goal
 
 pub find_flat-requires : goal.find_flat-requires
@@ -13,14 +14,15 @@ find_flat-requires g c =
     let s = c.args.self.now in
     let rows = c.rows_with-rows.result in
     let read = c.rows_with-rows.ensures in
-    none_stand _ _ _ (none_read rows.made.now rows.known.heap.now s.heap rows.known.foreign.now s.foreign read.0 read.1 s.here.own s.here.held)
+    told_stand (Tells s) _ _ (turn_held s rows.made.now rows.known.heap.now rows.known.foreign.now read.0 read.1) (g.W.RowWords.known c.args.words.now) c.requires.stand
 
 pub of-requires : goal.of-requires
 of-requires g c =
     let s = c.args.self.now in
     let rows = c.rows_with-rows.result in
     let read = c.rows_with-rows.ensures in
-    none_stand _ _ _ (none_read rows.made.now rows.known.heap.now s.heap rows.known.foreign.now s.foreign read.0 read.1 s.here.own s.here.held)
+    told_stand (Tells s) _ _ (turn_held s rows.made.now rows.known.heap.now rows.known.foreign.now read.0 read.1) (g.W.RowWords.known c.find_flat.new.words)
+    (subst (λ known. HoldsTold known (Tells s)) (sym c.find_flat.ensures.words.known) c.requires.stand)
 
 pub returns-clause-things : goal.returns-clause-things
 returns-clause-things g c =

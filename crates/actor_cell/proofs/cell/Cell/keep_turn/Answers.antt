@@ -1,6 +1,4 @@
-use Rattle.std.proofs.Common.{[], inl, sym, subst}
-use Rattle.object_heap.specs.Heap.{AllHere}
-use Rattle.actor_cell.proofs.Here.{all_made}
+use Rattle.std.proofs.Common.{[], inl}
 use Rattle.actor_cell.proofs.Tells.{own_made, tells_only}
 use Rattle.actor_cell.proofs.cell.Cell.keep_turn.Goals as goal
 
@@ -8,14 +6,3 @@ pub returns-clause-told : goal.returns-clause-told
 returns-clause-told c =
     let s = c.args.self.now in
     tells_only s.heap c.make_all.new.heap s.foreign s.foreign s.known s.known [] (own_made c.made.result.now s.heap c.make_all.new.heap c.make_all.ensures) (λ n row block told. inl told) (λ n row block told. inl told)
-
-pub invariant_of-self : goal.invariant_of-self
-invariant_of-self c =
-    let s = c.args.self.now in
-    record {
-      here = record {
-        own = subst AllHere (sym c.make_all.ensures) (all_made c.made.result.now s.heap s.here.own);
-        held = s.here.held;
-        brought = s.here.brought;
-      };
-    }

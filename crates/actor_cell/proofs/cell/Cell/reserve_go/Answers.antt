@@ -1,7 +1,6 @@
 use Rattle.std.proofs.Common.{ap, refl}
 use Rattle.object_heap.specs.Heap.{Heap}
 use Rattle.foreign_table.specs.Table.{Table}
-use Rattle.actor_cell.proofs.Here.{still_here}
 use Rattle.actor_cell.proofs.Tells.{tells_reserved}
 use Rattle.actor_cell.proofs.cell.Cell.reserve_go.Goals as goal
 
@@ -20,16 +19,3 @@ returns-clause-told c =
     tells_reserved s.heap c.reserve.new.self s.foreign c.reserve_entries.new.foreign s.known s.known
     (ap (λ (h : Heap). h.owner) same) (ap (λ (h : Heap). h.rows) same) (ap (λ (h : Heap). h.blocks) same)
     (ap (λ (t : Table). t.entries) held) (ap (λ (t : Table). t.blocks) held) refl refl
-
-pub invariant_of-self : goal.invariant_of-self
-invariant_of-self c =
-    let s = c.args.self.now in
-    record { here = still_here s.heap c.reserve.new.self s.foreign s.foreign s.known s.known (ap (λ (h : Heap). h.blocks) c.reserve.ensures.same) refl refl s.here }
-
-pub invariant_of-self-2 : goal.invariant_of-self-2
-invariant_of-self-2 c =
-    let s = c.args.self.now in
-    record {
-      here = still_here s.heap c.reserve.new.self s.foreign c.reserve_entries.new.foreign s.known s.known
-          (ap (λ (h : Heap). h.blocks) c.reserve.ensures.same) (ap (λ (t : Table). t.blocks) c.reserve_entries.ensures.same) refl s.here;
-    }

@@ -1,15 +1,15 @@
 use Rattle.std.proofs.Common.{ap, sym, ◌∙◌, refl}
-use Rattle.row_store.proofs.Standing.{none_stand}
 use Rattle.turn_rules.specs.Segment.{segment_of}
 use Rattle.known_rows.specs.Known.{row_known}
 use Rattle.known_rows.specs.declared.known.KnownRows.{KnownRows}
-use Rattle.known_rows.proofs.Standing.{none_known}
 use Rattle.turn_step.specs.Turns.{setting_in}
+use Rattle.actor_cell.specs.Tells.{Tells}
 use Rattle.actor_cell.proofs.Brought.{found_deep}
+use Rattle.actor_cell.proofs.Standing.{held_told, told_stand}
 use Rattle.actor_cell.proofs.cell.Cell.run_deep.Goals as goal
 
 pub of-rows-requires : goal.of-rows-requires
-of-rows-requires g c = let s = c.args.self.now in none_stand _ _ _ (none_known s.heap s.foreign s.here.own s.here.held)
+of-rows-requires g c = let s = c.args.self.now in told_stand (Tells s) _ _ (held_told s) (g.W.RowWords.known c.args.words.now) c.requires.stand
 
 pub returns-in-Ok-clause-halt : goal.returns-in-Ok-clause-halt
 returns-in-Ok-clause-halt g c =

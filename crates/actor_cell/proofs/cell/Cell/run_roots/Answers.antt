@@ -5,27 +5,26 @@ use Rattle.orca_names.specs.declared.names.ObjName.{ObjName}
 use Rattle.orca_names.specs.declared.names.Thing.{Thing}
 use Rattle.orca_names.specs.declared.trace.Trace.TheVariants.{Roots}
 use Rattle.reach_walk.specs.Reach.{named_by}
-use Rattle.row_store.proofs.Standing.{none_stand}
 use Rattle.turn_rules.specs.Segment.{Setting, Stop, gets_of, segment_of}
 use Rattle.turn_step.specs.Held.{needed_in}
 use Rattle.turn_step.specs.Turns.{HaltsAt, setting_in}
-use Rattle.known_rows.specs.Known.{row_known}
+use Rattle.known_rows.specs.Known.{block_known, row_known}
 use Rattle.known_rows.specs.declared.known.KnownRows.{KnownRows}
 use Rattle.machine_rules.specs.Cell.{row_by}
 use Rattle.machine_rules.specs.Go.{needed, setting_of}
 use Rattle.actor_cell.specs.Cells.{as_cell}
+use Rattle.actor_cell.specs.Tells.{Tells}
 use Rattle.foreign_table.specs.Table.{holds_in}
-use Rattle.foreign_table.specs.Table as tables
-use Rattle.known_rows.proofs.Standing.{none_known}
 use Rattle.actor_cell.proofs.Brought.{found_roots}
 use Rattle.actor_cell.proofs.Needing.{needs_is}
+use Rattle.actor_cell.proofs.Standing.{AreTold, brought_told, told_stand}
 use Rattle.actor_cell.proofs.cell.Cell.run_roots.Goals as goal
 
 pub of-rows-requires : goal.of-rows-requires
 of-rows-requires g c =
     let s = c.args.self.now in
-    let brought = c.held_or-foreign.result.now in
-    none_stand _ _ _ (none_known s.heap brought s.here.own (subst tables.AllHere (sym c.held_or-foreign.ensures) s.here.brought))
+    let told = subst (λ t. AreTold (Tells s) (row_known s.heap t) (block_known s.heap t)) (sym c.held_or-foreign.ensures) (brought_told s) in
+    told_stand (Tells s) _ _ told (g.W.RowWords.known c.args.words.now) c.requires.stand
 
 pub returns-clause-halt : goal.returns-clause-halt
 returns-clause-halt g c =

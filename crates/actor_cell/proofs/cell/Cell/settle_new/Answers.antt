@@ -1,7 +1,6 @@
-use Rattle.std.proofs.Common.{◌≡◌, ◌+◌, [], None, inl, sym, ap, subst, ◌∙◌}
+use Rattle.std.proofs.Common.{◌≡◌, ◌+◌, [], None, inl, sym, ap, ◌∙◌}
 use Rattle.orca_names.specs.declared.names.Thing.TheVariants.{Actor}
-use Rattle.foreign_table.specs.Table.{AllHere, entered}
-use Rattle.foreign_table.proofs.Here.{entered_here}
+use Rattle.foreign_table.specs.Table.{entered}
 use Rattle.known_rows.specs.Holdings.{holdings_of}
 use Rattle.trace_send.proofs.Steps.{set-held}
 use Rattle.actor_cell.specs.Cells.{as_cell}
@@ -21,14 +20,3 @@ returns-clause-told c =
     let s = c.args.self.now in
     tells_only s.heap s.heap s.foreign c.gain.new.self s.known s.known [] (λ n row block told. told) (held_put (λ n. n + c.from.result) (Actor c.args.name) s.foreign c.gain.new.self [] c.gain.ensures)
     (λ n row block told. inl told)
-
-pub invariant_of-self : goal.invariant_of-self
-invariant_of-self c =
-    let s = c.args.self.now in
-    record {
-      here = record {
-        own = s.here.own;
-        held = subst AllHere (sym c.gain.ensures) (entered_here (λ n. n + c.from.result) (Actor c.args.name) None s.foreign s.here.held);
-        brought = s.here.brought;
-      };
-    }
