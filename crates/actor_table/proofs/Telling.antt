@@ -1,13 +1,14 @@
 -- What is told where one place of the table changes.
-use Rattle.std.proofs.Common.{◌≡◌, ◌⊎◌, inl, inr, ⊎_elim, ℕ, zero, suc, ◌<◌, ◌==◌, Bool, true, false, List, [], ◌∷◌, ◌++◌, length, get_or, set, refl, sym, subst, arith}
+use Rattle.std.proofs.Common.{◌≡◌, ◌⊎◌, inl, inr, ⊎_elim, ℕ, zero, suc, ◌<◌, ◌==◌, Bool, true, false, List, [], ◌∷◌, ◌++◌, length, get_or, set, refl, sym, subst, arith, Some, drop, slice_get}
 use Rattle.std.proofs.lemmas.Bool.{eqb-false, eqb-true}
 use Rattle.std.proofs.lemmas.Grind.{get_or-set_at}
 use Rattle.std.proofs.lemmas.List.{get_or-set_other}
+use Rattle.std.proofs.lemmas.Option.{get_or_from_slice_get}
 use Rattle.orca_names.specs.declared.names.ObjName.{ObjName}
 use Rattle.orca_names.specs.declared.names.Thing.{Thing}
 use Rattle.row_store.specs.Told.{Lying}
 use Rattle.letter_kinds.specs.Holdings.{Row}
-use Rattle.letter_kinds.specs.Telling.{Brought, Telling, TellsNothing, TellsOnly, Told, ToldByOne, all_brought}
+use Rattle.letter_kinds.specs.Telling.{Brought, Telling, TellsNothing, TellsOnly, Told, ToldByOne, all_brought, nothing_brought}
 use Rattle.letter_kinds.proofs.Telling.{tells_same}
 use Rattle.mail_rows.specs.Mail.{Mail}
 use Rattle.actor_cell.specs.declared.cell.Cell.{Cell}
@@ -15,7 +16,7 @@ use Rattle.actor_cell.specs.Tells.{Tells}
 use Rattle.actor_table.specs.declared.slot.Slot.{Slot}
 use Rattle.actor_table.specs.declared.slot.Place.TheVariants.{Gone, Home}
 use Rattle.actor_table.specs.Slots.{gone, slot_at}
-use Rattle.actor_table.specs.Telling.{PlaceTells, SlotTells, TableTells}
+use Rattle.actor_table.specs.Telling.{PlaceTells, SlotTells, TableTells, TellsWith}
 use Rattle.actor_table.proofs.Changing.{place_read}
 
 -- the place of an actor becomes x: it tells what the place told before, and perhaps more
@@ -92,3 +93,18 @@ place_added (y ∷ slots) x nothing n row block (suc b, told) =
 pub fresh_untold : (c : Cell) (mail : Mail) → TellsNothing (Tells c) → mail.brought ≡ [] → TellsNothing (SlotTells (record { place = Home c; mail = mail }))
 fresh_untold c mail nothing none n row block (inl told) = nothing n row block told
 fresh_untold c mail nothing none n row block (inr told) = gone_untold n row block (inr (subst (λ l. ToldByOne l n row block) none told))
+
+-- a cell that tells no more, with the letters that wait
+pub with_told : (c d : Cell) (letters : List Brought) → TellsOnly (Tells c) [] (Tells d) → TellsOnly (TellsWith c letters) [] (TellsWith d letters)
+with_told c d letters only n row block (inl told) = ⊎_elim (λ before. inl (inl before)) inr (only n row block told)
+with_told c d letters only n row block (inr told) = inl (inr told)
+
+-- with those behind the first, which it took
+pub with_taken : (c d : Cell) (letters : List Brought) (b : Brought) → slice_get letters 0 ≡ Some b → TellsOnly (Tells c) (all_brought b) (Tells d)
+    → TellsOnly (TellsWith c letters) [] (TellsWith d (drop 1 letters))
+with_taken c d letters b first only n row block (inl told) = ⊎_elim
+    (λ before. inl (inl before))
+    (λ its. inl (inr (0, subst (λ (l : Brought). Told (all_brought l) n row block) (sym (get_or_from_slice_get letters 0 b nothing_brought first)) its)))
+    (only n row block told)
+with_taken c d [] b first only n row block (inr told) = cc
+with_taken c d (l ∷ letters) b first only n row block (inr (i, told)) = inl (inr (suc i, told))

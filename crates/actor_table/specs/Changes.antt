@@ -22,6 +22,7 @@ use Rattle.actor_cell.specs.Finding.{HasRoomToMove}
 use Rattle.actor_cell.specs.Goes.{CanMove, cell_by, new_entries, out_of}
 use Rattle.actor_cell.specs.Takes.{CanTake, HasRoomFor}
 use Rattle.ref_weights.specs.Limit.{count_limit}
+use Rattle.mail_rows.specs.Mail.{Mail, first_brought}
 use Rattle.actor_table.specs.declared.slot.Slot.{Slot}
 use Rattle.actor_table.specs.declared.slot.Place.TheVariants.{Home}
 use Rattle.actor_table.specs.Slots.{Table, actors_of, away_of, is_away, letters_in, owner_in, places_of, slot_at}
@@ -100,13 +101,13 @@ pub record HasCell (x : Slot) (Q : Cell → Type 0) : Type 0 where
   pub so : Q cell
 
 -- it is idle and has a letter, its counts allow what the letter does, and there is room for it
-pub record CanTakeHere (a : ℕ) (letters : List Letter) (c : Cell) : Type 0 where
+pub record CanTakeHere (a : ℕ) (mail : Mail) (c : Cell) : Type 0 where
   pub letter : Letter
   pub later : List Letter
-  pub first : letters ≡ letter ∷ later
+  pub first : mail.letters ≡ letter ∷ later
   pub idle : c.frame ≡ None
   pub can : CanTake a letter (as_cell c).holdings
-  pub room : HasRoomFor letter c
+  pub room : HasRoomFor letter (first_brought mail) c
 
 -- it has a frame, its counts allow what was found of its turn, also to hold an actor that this makes,
 -- and there is room for it
@@ -119,27 +120,26 @@ pub record CanGoOn (a weight name : ℕ) (turn : Turn) (act : Move) (c : Cell) :
   pub fits : IsSome (out_of act).made → count_on c.foreign (Actor name) + weight < count_limit
 
 -- the change is allowed with this cell and these letters
-abbrev pub AllowsChange : ℕ → Change → List Letter → Cell → Type 0
-AllowsChange a Take letters c = CanTakeHere a letters c
-AllowsChange a (Go turn found name weight) letters c =
-    CanGoOn a weight name turn (act_in found) c
-AllowsChange a (Collect found trace) letters c = found ≡ sweep_of trace c
-AllowsChange a Block letters c = ⊤
+abbrev pub AllowsChange : ℕ → Change → Mail → Cell → Type 0
+AllowsChange a Take mail c = CanTakeHere a mail c
+AllowsChange a (Go turn found name weight) mail c = CanGoOn a weight name turn (act_in found) c
+AllowsChange a (Collect found trace) mail c = found ≡ sweep_of trace c
+AllowsChange a Block mail c = ⊤
 
 -- its cell is at home, which allows the change
 abbrev pub CanChange : ℕ → Change → Slot → Type 0
-CanChange a change x = HasCell x (AllowsChange a change x.mail.letters)
+CanChange a change x = HasCell x (AllowsChange a change x.mail)
 
 -- the cell has room for the change
-abbrev pub HasRoomIn : Change → List Letter → Cell → Type 0
-HasRoomIn Take letters c = (letter : Letter) (later : List Letter)
-    → letters ≡ letter ∷ later → HasRoomFor letter c
-HasRoomIn (Go turn found name weight) letters c = HasRoomToMove turn (act_in found) c
-HasRoomIn change letters c = ⊤
+abbrev pub HasRoomIn : Change → Mail → Cell → Type 0
+HasRoomIn Take mail c = (letter : Letter) (later : List Letter)
+    → mail.letters ≡ letter ∷ later → HasRoomFor letter (first_brought mail) c
+HasRoomIn (Go turn found name weight) mail c = HasRoomToMove turn (act_in found) c
+HasRoomIn change mail c = ⊤
 
 -- where its cell is at home, it has room for the change
 abbrev pub HasRoomToChange : Change → Slot → Type 0
-HasRoomToChange change x = (c : Cell) → x.place ≡ Home c → HasRoomIn change x.mail.letters c
+HasRoomToChange change x = (c : Cell) → x.place ≡ Home c → HasRoomIn change x.mail c
 
 -- ---- what stays
 

@@ -41,7 +41,7 @@ pub trait Changes {
         ensures cell { as_cell cell.new ≡ as_cell cell.old }
         ensures owner { cell.new.heap.owner ≡ cell.old.heap.owner }
         ensures told { TellsOnly (Tells cell.old) [] (Tells cell.new) }
-        ensures ok { OnOk result (HasRoomIn (as_change self.now) mail.now.letters cell.new) };
+        ensures ok { OnOk result (HasRoomIn (as_change self.now) mail.now cell.new) };
 
     /// It is done to the cell and the letters of the actor, and gives the letter that it takes. It
     /// takes no memory. That of a frame that ends serves again as the spare.
@@ -52,7 +52,7 @@ pub trait Changes {
         mail: &mut MailRow,
         spare: &mut SpareFrame,
     ) -> Option<Letter>
-        requires { AllowsChange cell.old.heap.owner (as_change self.now) mail.old.letters cell.old }
+        requires { AllowsChange cell.old.heap.owner (as_change self.now) mail.old cell.old }
         ensures seat { let me = cell.old.heap.owner in seat (as_cell cell.new) mail.new.letters
             ≡ seat_after code.now me (as_change self.now) (seat (as_cell cell.old) mail.old.letters) }
         ensures owner { cell.new.heap.owner ≡ cell.old.heap.owner }

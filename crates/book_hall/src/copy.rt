@@ -3,7 +3,9 @@
 ghost use Rattle.std.specs.Prelude.{◌≡◌, ◌+◌, ◌<◌, ◌^◌, true, IfErr, IfOk, IsSome, IsTrue, None, OnOk, Some};
 ghost use Rattle.std.specs.Option.{ForSome};
 ghost use Rattle.event_rule.specs.Events.{actor_of};
-ghost use Rattle.actor_cell.specs.Founds.{IsFound};
+ghost use Rattle.orca_parts.specs.Founds.{IsFoundUntold};
+ghost use Rattle.letter_kinds.specs.Telling.{TellsNothing};
+ghost use Rattle.actor_cell.specs.Tells.{Tells};
 ghost use Rattle.actor_cell.specs.Sweeps.{KnowsOthersOnly};
 ghost use Rattle.work_board.specs.Answered.{is_evaluated};
 ghost use Rattle.hall_rules.specs.Facts.{is_found_prop};
@@ -32,6 +34,7 @@ pub struct CellCopy<'a> {
     ghost its: { actor_of event ≡ Some cell.heap.owner },
     ghost serials: { cell.heap.next + 1024 < 2 ^ 64 },
     ghost others: { KnowsOthersOnly cell },
+    ghost untold: { TellsNothing (Tells cell) },
 }
 
 /// What was found of a copy: where its event is a turn or a collection, what this does.
@@ -39,7 +42,7 @@ pub struct CellCopy<'a> {
 pub struct Proposal<'a> {
     pub copy: CellCopy<'a>,
     pub found: Option<Found>,
-    ghost own: { ForSome found (IsFound copy.options copy.code.now copy.cell) } by { Prim.hlevel is_found_prop },
+    ghost own: { ForSome found (IsFoundUntold copy.options copy.code.now copy.cell) } by { Prim.hlevel is_found_prop },
 }
 
 /// Memory was refused; the copy comes back.
@@ -117,7 +120,7 @@ impl<'a> CellCopy<'a> {
     /// What the event does, where it is a turn or a collection.
     fn find(&self, alloc: Global) -> Result<Option<Found>, NoMemory>
         ensures own { IfOk result
-            (λ found. ForSome found (IsFound self.now.options self.now.code.now self.now.cell)) }
+            (λ found. ForSome found (IsFoundUntold self.now.options self.now.code.now self.now.cell)) }
         ensures found { IfOk result (λ found. is_evaluated self.now.event ≡ true → IsSome found) }
     {
         match self.event {

@@ -2,7 +2,7 @@
 
 ghost use Rattle.std.specs.Prelude.{◌≡◌, ◌||◌, false, true, IfOk, IsSome, IsSomeAnd, OnOk, Some, ⊤};
 ghost use Rattle.event_rule.specs.Events.{actor_of};
-ghost use Rattle.actor_cell.specs.Founds.{IsFound};
+ghost use Rattle.orca_parts.specs.Founds.{IsFoundUntold};
 ghost use Rattle.work_board.specs.Answered.{is_evaluated, is_spoiling};
 
 use crate::copy::Proposal;
@@ -185,7 +185,7 @@ impl<'h, 'a, J: Naming> Board for HallPass<'h, 'a, J> {
 
     ghost found = { λ task. let copy = task.proposal.copy in
         IsSomeAnd task.proposal.found
-        (IsFound copy.options copy.code.now copy.cell) };
+        (IsFoundUntold copy.options copy.code.now copy.cell) };
 
     fn look<R: Wait>(&mut self, rt: &R) -> Look {
         let answer = self.hall.hall.lock(rt).hall.look();

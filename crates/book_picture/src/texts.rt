@@ -1,8 +1,10 @@
 // The texts of the lines of parts of a state, each empty where the part is not there.
 
-ghost use Rattle.std.specs.Prelude.{◌≡◌, ◌++◌, Option, IfOk, OnOk, map, string_bytes};
+ghost use Rattle.std.specs.Prelude.{◌≡◌, ◌++◌, Option, IfOk, IfSome, OnOk, map, string_bytes};
 ghost use Rattle.std.specs.Option.{option_map, option_copied};
+ghost use Rattle.letter_kinds.specs.Telling.{TellsNothing, ToldByOne};
 ghost use Rattle.actor_cell.specs.Cells.{as_cell};
+ghost use Rattle.actor_cell.specs.Tells.{Tells};
 ghost use Rattle.machine_rules.specs.Actors.{Seat, cell_of};
 ghost use Rattle.orca_core.specs.Machine.{NoneIsAway};
 ghost use Rattle.picture_rules.specs.Words.{text_of_lines};
@@ -40,6 +42,8 @@ pub(crate) fn push_actor(
     cell: Option<&Cell>,
     mail: Option<&MailRow>,
 ) -> Result<(), AllocError>
+    requires cell { IfSome cell (λ c. TellsNothing (Tells c.now)) }
+    requires mail { IfSome mail (λ m. TellsNothing (ToldByOne m.now.brought)) }
     ensures { (o : Option Seat) → option_map (λ c. as_cell c.now) cell.entry ≡ cell_of o
         → option_map (λ m. m.now.letters) mail.entry ≡ option_map (λ p. p.mail) o
         → OnOk result (string_bytes out.new ≡ string_bytes out.old

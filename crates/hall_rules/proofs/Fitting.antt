@@ -22,6 +22,7 @@ use Rattle.actor_cell.specs.Founds.{IsFound}
 use Rattle.actor_cell.specs.Goes.{IsTold}
 use Rattle.actor_cell.specs.Moves.{act_in}
 use Rattle.actor_table.specs.Slots.{home_in, home_of, slot_at}
+use Rattle.orca_parts.specs.Founds.{IsFoundUntold}
 use Rattle.orca_parts.specs.Parts.{options_of}
 use Rattle.orca_core.specs.Machine.{Machine, IsFoundIn}
 
@@ -65,10 +66,10 @@ module _ (weight : ℕ) (program : Program) (c d : Cell) (same : IsSame c d) whe
 -- so where that cell is at home, it may be done
 pub still_found : (m : Machine) (e : Event) (found : Found) (start : Cell) → actor_of e ≡ Some start.heap.owner
     → IsSomeAnd (home_of (slot_at m.kept.table.slots start.heap.owner)) (λ c. IsSame c start)
-    → IsFound m.state.options m.state.program start found → IsFoundIn e found m
+    → IsFoundUntold m.state.options m.state.program start found → IsFoundIn e found m
 still_found m e found start its has is = λ a acts c at.
     let a_is : a ≡ start.heap.owner = (let z : Some a ≡ Some start.heap.owner = sym acts ∙ its in cc) in
     let there : home_of (slot_at m.kept.table.slots start.heap.owner) ≡ Some c =
     sym (ap (λ b. home_of (slot_at m.kept.table.slots b)) a_is) ∙ ap home_in at in
     let same : IsSame c start = subst (λ o. IsSomeAnd o (λ k. IsSame k start)) there has in
-    found_same m.state.options.weight m.state.program c start same m.state.options.trace found is
+    (found_same m.state.options.weight m.state.program c start same m.state.options.trace found is.0, is.1)

@@ -4,3 +4,4 @@ pub mod Lasting
 pub mod Listing
 pub mod Reached
 pub mod Rounds
+pub mod Untold

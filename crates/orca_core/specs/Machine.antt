@@ -6,12 +6,14 @@ use Rattle.event_rule.specs.declared.event.Event.{Event}
 use Rattle.event_rule.specs.declared.event.Event.TheVariants.{Reap}
 use Rattle.letter_kinds.specs.Detector.{Token, has}
 use Rattle.letter_kinds.specs.Letters.{Letter}
+use Rattle.letter_kinds.specs.Telling.{TellsNothing}
 use Rattle.machine_rules.specs.Actors.{Seat, cell_at, seat_at}
 use Rattle.machine_rules.specs.Cell.{Cell}
 use Rattle.machine_rules.specs.Detect.{acked_token}
 use Rattle.machine_rules.specs.Run.{IsRun}
 use Rattle.machine_rules.specs.State.{State}
 use Rattle.actor_cell.specs.declared.found.Found.{Found}
+use Rattle.actor_table.specs.Telling.{TableTells}
 use Rattle.orca_parts.specs.Away.{is_out}
 use Rattle.orca_parts.specs.Founds.{IsFoundFor}
 use Rattle.orca_parts.specs.declared.insides.Core.{Core}
@@ -38,10 +40,11 @@ pub record IsReached (state : State) (steps : ℕ) : Type 0 where
   pub long : length book ≡ steps
   pub early : steps ≤ BOOK_LIMIT
 
--- it is reached, and what was found last awaits a letter still, where it stands
+-- it is reached, what was found last awaits a letter still, where it stands, and no row lies in a block
 pub record IsKept (m : Core) (steps : ℕ) : Type 0 where
   pub reached : IsReached (core_state m) steps
   pub stands : StandsWell m
+  pub untold : TellsNothing (TableTells m.parts.table.slots)
 
 -- nothing but room is another
 pub record IsSame (old new : Machine) : Type 0 where

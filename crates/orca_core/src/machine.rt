@@ -7,7 +7,9 @@ ghost use Rattle.machine_rules.specs.Actors.{seat};
 ghost use Rattle.machine_rules.specs.Cell.{first_cell};
 ghost use Rattle.machine_rules.specs.Next.{next};
 ghost use Rattle.machine_rules.specs.State.{first_state, start_letters};
+ghost use Rattle.letter_kinds.specs.Telling.{TellsNothing, ToldByOne};
 ghost use Rattle.actor_table.specs.Slots.{actors_of, away_of};
+ghost use Rattle.actor_table.specs.Telling.{TableTells};
 ghost use Rattle.orca_parts.specs.Away.{KeepsAway, is_out_for, next_without};
 ghost use Rattle.orca_parts.specs.Faults.{IsFault};
 ghost use Rattle.orca_parts.specs.Parts.{options_of};
@@ -66,7 +68,8 @@ impl<'a> Model for Orca<'a> {
 
 // The letters of the first actor: `start`, where the program has it.
 fn first_mail(alloc: Global, code: &Checked) -> Result<MailRow, NoMemory>
-    ensures { IfOk result (λ mail. mail.letters ≡ start_letters code.now) }
+    ensures letters { IfOk result (λ mail. mail.letters ≡ start_letters code.now) }
+    ensures untold { IfOk result (λ mail. TellsNothing (ToldByOne mail.brought)) }
 {
     let mut mail = MailRow::new(alloc);
     if let Some(behaviour) = code.program().start_name() {
@@ -87,6 +90,7 @@ fn first_table(alloc: Global, code: &Checked) -> Result<ActorTable, NoMemory>
     ensures actors { IfOk result (λ table. actors_of table.slots
         ≡ seat (first_cell code.now) (start_letters code.now) ∷ []) }
     ensures home { IfOk result (λ table. away_of table.slots ≡ false ∷ []) }
+    ensures untold { IfOk result (λ table. TellsNothing (TableTells table.slots)) }
 {
     let mail = first_mail(alloc, code)?;
     let mut table = ActorTable::new(alloc);

@@ -28,7 +28,7 @@ same_cell : (place : Place) (c d : Cell) → place ≡ Home c → place ≡ Home
 same_cell place c d one two = let z : Home c ≡ Home d = sym one ∙ two in cc
 
 pub can_take : (a : ℕ) (m : Parts) → FitsTake a m → AllowsTake a (actors_of m.table.slots)
-    → HasCell (slot_at m.table.slots a) (CanTakeHere a (slot_at m.table.slots a).mail.letters)
+    → HasCell (slot_at m.table.slots a) (CanTakeHere a (slot_at m.table.slots a).mail)
 can_take a m fits allow = record {
   cell = fits.cell;
   home = fits.home;

@@ -1,6 +1,6 @@
 -- What was found of an actor before its event came.
-use Rattle.std.proofs.Common.{◌≡◌, ◌≤◌, ℕ, true, List, length, Option, Some, None, ap, subst, ◌∙◌, arith}
-use Rattle.std.specs.Prelude.{IsSome, IsSomeAnd}
+use Rattle.std.proofs.Common.{◌≡◌, ◌≤◌, ℕ, true, false, refl, List, length, Option, Some, None, ap, subst, ◌∙◌, arith}
+use Rattle.std.specs.Prelude.{IsSome, IsSomeAnd, ⊤}
 use Rattle.orca_names.specs.declared.names.Thing.{Thing}
 use Rattle.orca_names.specs.declared.options.Options.{Options}
 use Rattle.behaviour_code.specs.WellFormed.{IsWellFormed}
@@ -29,6 +29,12 @@ use Rattle.orca_parts.specs.Awaiting.{IsAwaited}
 use Rattle.orca_parts.specs.Goes.{IsFoundGo}
 use Rattle.orca_parts.specs.declared.parts.Parts.{Parts}
 use Rattle.orca_parts.proofs.Awaiting.{found_awaited}
+use Rattle.event_rule.specs.declared.event.Event.{Event}
+use Rattle.event_rule.specs.declared.event.Event.TheVariants.{Take, Go, Collect, Leave, Block, Hear, Scan, Reap}
+use Rattle.actor_cell.specs.declared.found.Found.TheVariants.{Goes}
+use Rattle.orca_parts.specs.Core.{HasFound}
+use Rattle.orca_parts.specs.Founds.{IsFoundFor}
+use Rattle.orca_parts.specs.declared.insides.Core.{Core}
 
 -- a turn of a program that is well formed makes few objects
 turned_few : (options : Options) (program : Program) (me : ℕ) (c : rules.Cell) (frame : Frame) → IsWellFormed program
@@ -41,7 +47,7 @@ turned_few options program me c frame good = by (needed options.trace program me
 
 pub found_few : (options : Options) (program : Program) (me : ℕ) (turn : Turn) (turned : Turned) (c : Cell) → IsWellFormed program
     → IsFoundGo options program me turn turned c → length turn.made ≤ 1024
-found_few options program me turn turned c good is = by c.frame is
+found_few options program me turn turned c good is = by c.frame is.0
   where
     by : (frame : Option Frame) → IsSomeAnd frame (IsTold options program me (as_cell c) turn turned.place (act_in turned)) → length turn.made ≤ 1024
     by None found = absurd found
@@ -63,3 +69,19 @@ pub awaited_at : (options : Options) (program : Program) (a : ℕ) (m : Parts) (
     → AwaitsAt options.trace program c.heap.owner (as_cell c) m.turn m.turned → IsAwaited options.trace program m
 awaited_at options program a m c home its is =
     found_awaited options.trace program a m (record { cell = c; home = home; so = subst (λ me. AwaitsAt options.trace program me (as_cell c) m.turn m.turned) its is })
+
+-- a turn that was found elsewhere is known once it stands in the machine
+pub turn_known : (e : Event) (m : Core) (turn : Turn) (turned : Turned) → IsFoundFor m.options m.code.now (Goes turn turned) e m.parts.table.slots
+    → HasFound e (record m { parts = record m.parts { turn = turn; turned = turned }; stands = false })
+turn_known (Take a) m turn turned its = tt
+turn_known (Go a) m turn turned its = λ c home framed. its a refl c home
+turn_known (Collect a) m turn turned its = λ c home rests dirty. absurd (subst (λ f. IsSomeAnd f (λ _. ⊤)) rests (framed_of _ c.frame (its a refl c home).0))
+  where
+    framed_of : (P : Frame → Type 0) (f : Option Frame) → IsSomeAnd f P → IsSomeAnd f (λ _. ⊤)
+    framed_of P None is = is
+    framed_of P (Some frame) is = tt
+turn_known (Leave a) m turn turned its = tt
+turn_known (Block a) m turn turned its = tt
+turn_known Hear m turn turned its = tt
+turn_known Scan m turn turned its = tt
+turn_known (Reap number) m turn turned its = tt

@@ -14,3 +14,4 @@ pub mod Reaping
 pub mod Reserving
 pub mod Stepped
 pub mod Waking
+pub mod Untold

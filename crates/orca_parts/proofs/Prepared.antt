@@ -33,7 +33,8 @@ use Rattle.orca_parts.specs.declared.parts.Parts.{Parts}
 use Rattle.orca_parts.proofs.Giving.{seat_here}
 use Rattle.actor_table.specs.Telling.{TableTells}
 use Rattle.letter_kinds.proofs.Telling.{tells_then}
-use Rattle.letter_kinds.specs.Telling.{TellsOnly}
+use Rattle.letter_kinds.specs.Telling.{TellsNothing, TellsOnly, Told}
+use Rattle.actor_cell.specs.Tells.{told_out}
 
 -- an actor that is present and not away has its cell at home
 home_in : (place : Place) (letters : List Letter) → is_some (seat_in place letters) ≡ true
@@ -86,9 +87,9 @@ module _ (options : Options) (program : Program) (a : ℕ) (found : Turned) (old
       → IsTold options program a (as_cell c) turn found.place (act_in found) frame
       → (x : Cell) → (slot_at mid a).place ≡ Home x → as_cell x ≡ as_cell c
       → HasRoomToGo (slot_at mid a) → places_of m.table.slots ≡ places_of mid → m.turn ≡ turn
-      → HasRoomOut (act_in found) m → length turn.made ≤ BODY_LIMIT
+      → HasRoomOut (act_in found) m → length turn.made ≤ BODY_LIMIT → TellsNothing (Told (told_out found))
       → FitsGo options program a found m
-  fits_with c home frame framed is x at same room places kept out few =
+  fits_with c home frame framed is x at same room places kept out few untold =
       let sizes = room x at in
       record {
         cell = x;
@@ -100,6 +101,7 @@ module _ (options : Options) (program : Program) (a : ℕ) (found : Turned) (old
         objects = subst (λ (t : Turn). length t.made ≤ x.heap.spare) (sym kept) sizes.0;
         entries = sizes.1;
         room = out;
+        untold = untold;
       }
 
   pub fits_go : HasCell (slot_at old a) (IsFoundGo options program a turn found)
@@ -112,11 +114,11 @@ module _ (options : Options) (program : Program) (a : ℕ) (found : Turned) (old
       let home : is_away (slot_at mid a) ≡ false =
       sym (away_read mid a) ∙ ap (λ bs. get_or bs a false) away ∙ away_read old a ∙ ap is_away_in cell.home in
       let x = at_home mid a (as_cell c) (slot_at old a).mail.letters (ap (λ xs. seat_at xs a) actors ∙ seat_here old a c cell.home) home in
-      by c.frame refl cell.so x
+      by c.frame refl cell.so.0 x
     where
       by : (f : Option Frame) → cell.cell.frame ≡ f
           → IsSomeAnd f (IsTold options program a (as_cell cell.cell) turn found.place (act_in found))
           → HasCell (slot_at mid a) (λ x. as_cell x ≡ as_cell cell.cell) → FitsGo options program a found m
       by None framed is x = absurd is
       by (Some frame) framed is x =
-          fits_with cell.cell cell.home frame framed is x.cell x.home x.so room places kept out few
+          fits_with cell.cell cell.home frame framed is x.cell x.home x.so room places kept out few cell.so.1

@@ -55,6 +55,7 @@ use Rattle.orca_parts.proofs.Reserving.{once_each}
 use Rattle.actor_table.specs.Telling.{TableTells}
 use Rattle.actor_table.proofs.Telling.{still_told}
 use Rattle.letter_kinds.specs.Telling.{TellsOnly}
+use Rattle.mail_rows.specs.Mail.{first_brought}
 
 module _ (may : rules.Cell → List Letter → Bool) where
   -- an actor that may not act at home is away, or its event is not enabled
@@ -133,7 +134,8 @@ pub rests_dirty : (c : Cell) (letters : List Letter) → may_collect (as_cell c)
 rests_dirty c letters on = idle_and c.frame c.dirty on
 
 pub fits_take : (a : ℕ) (m : Parts) (old : List Slot) → actors_of m.table.slots ≡ actors_of old → away_of m.table.slots ≡ away_of old
-    → may_at may_take (slot_at old a) ≡ true → ((c : Cell) → (slot_at m.table.slots a).place ≡ Home c → (letter : Letter) (later : List Letter) → (slot_at m.table.slots a).mail.letters ≡ letter ∷ later → HasRoomFor letter c)
+    → may_at may_take (slot_at old a) ≡ true → ((c : Cell) → (slot_at m.table.slots a).place ≡ Home c → (letter : Letter) (later : List Letter) → (slot_at m.table.slots a).mail.letters ≡ letter ∷ later
+    → HasRoomFor letter (first_brought (slot_at m.table.slots a).mail) c)
     → deque_len m.notes < deque_capacity m.notes → FitsTake a m
 fits_take a m old actors away may room note =
     by x.place refl x.mail.letters refl (may_stays may_take (slot_at old a) x (same_at seat_of m.table.slots old actors a) (same_at is_away m.table.slots old away a) ∙ may)

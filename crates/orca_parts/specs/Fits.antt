@@ -20,6 +20,7 @@ use Rattle.actor_cell.specs.Outs.{left_behind, report_of}
 use Rattle.actor_cell.specs.Sweeps.{sweep_of}
 use Rattle.std.specs.VecDeque.{deque_capacity, deque_len}
 use Rattle.behaviour_code.specs.declared.code.Program.{Program}
+use Rattle.mail_rows.specs.Mail.{first_brought}
 use Rattle.machine_rules.specs.Guards.{may_do}
 use Rattle.machine_rules.specs.Options.{Options}
 use Rattle.actor_cell.specs.Takes.{HasRoomFor}
@@ -101,7 +102,7 @@ pub record FitsTake (a : ℕ) (m : Parts) : Type 0 where
   pub later : List Letter
   pub letters : (slot_at m.table.slots a).mail.letters ≡ letter ∷ later
   pub idle : cell.frame ≡ None
-  pub room : HasRoomFor letter cell
+  pub room : HasRoomFor letter (first_brought (slot_at m.table.slots a).mail) cell
   pub note : cell.reported ≡ true → deque_len m.notes < deque_capacity m.notes
 
 -- the sweep is that of the actor with this tracing, and the letters that return what it gives back fit

@@ -7,6 +7,7 @@ use Rattle.orca_names.specs.declared.options.Options.{Options}
 use Rattle.behaviour_code.specs.declared.code.Program.{Program}
 use Rattle.turn_rules.specs.declared.act.Frame.{Frame}
 use Rattle.letter_kinds.specs.Letters.{Inc}
+use Rattle.letter_kinds.specs.Telling.{TellsNothing, Told}
 use Rattle.machine_rules.specs.Actors.{push_letter, seat, seat_at}
 use Rattle.turn_rules.specs.Segment.{Turn}
 use Rattle.machine_rules.specs.Cell.{fresh_cell}
@@ -16,6 +17,7 @@ use Rattle.actor_cell.specs.Moves.{Move, Post, Mint, New, Print, End, Rest, act_
 use Rattle.actor_cell.specs.declared.turning.Turned.{Turned}
 use Rattle.actor_cell.specs.Cells.{as_cell}
 use Rattle.actor_cell.specs.Goes.{CanMove, IsTold, new_entries}
+use Rattle.actor_cell.specs.Tells.{told_out}
 use Rattle.actor_table.specs.declared.slot.Slot.{Slot}
 use Rattle.actor_table.specs.declared.slot.Place.TheVariants.{Home}
 use Rattle.actor_table.specs.Slots.{actors_of, slot_at}
@@ -36,10 +38,11 @@ HasRoomOut (Print value) m = vec_len m.prints < vec_capacity m.prints
 HasRoomOut End m = ⊤
 HasRoomOut Rest m = ⊤
 
--- this was found of the turn of the cell, which has a frame
+-- this was found of the turn of the cell, which has a frame, and tells of no row in a block
 abbrev pub IsFoundGo : Options → Program → ℕ → Turn → Turned → Cell → Type 0
-IsFoundGo options program a turn found c = IsSomeAnd c.frame
-    (IsTold options program a (as_cell c) turn found.place (act_in found))
+IsFoundGo options program a turn found c =
+    IsSomeAnd c.frame (IsTold options program a (as_cell c) turn found.place (act_in found))
+    × TellsNothing (Told (told_out found))
 
 -- this is known of the turn of the cell at home, where it has a frame
 abbrev pub IsKnownGo : Options → Program → Turn → Turned → Slot → Type 0
@@ -58,6 +61,7 @@ pub record FitsGo (options : Options) (program : Program) (a : ℕ) (found : Tur
   pub objects : length m.turn.made ≤ cell.heap.spare
   pub entries : new_entries (act_in found) cell.foreign.entries ≤ cell.foreign.spare
   pub room : HasRoomOut (act_in found) m
+  pub untold : TellsNothing (Told (told_out found))
 
 -- the actor's counts and serials allow it, and it holds nothing of the actor that is made next
 pub record CountsAllow (a : ℕ) (act : Move) (parts : Parts) (c : Cell) : Type 0 where

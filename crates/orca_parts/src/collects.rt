@@ -2,6 +2,8 @@
 
 ghost use Rattle.std.specs.Prelude.{◌≡◌, true, IfErr, OnOk};
 ghost use Rattle.event_rule.specs.declared.event.Event.TheVariants.{Collect as collect_event};
+ghost use Rattle.letter_kinds.specs.Telling.{TellsNothing};
+ghost use Rattle.actor_table.specs.Telling.{TableTells};
 ghost use Rattle.actor_table.specs.Slots.{may_event, slot_at};
 ghost use Rattle.actor_cell.specs.declared.cell.Cell.{Cell};
 ghost use Rattle.actor_cell.specs.Sweeps.{KnowsOthersOnly, sweep_of};
@@ -34,6 +36,7 @@ fn find_collect(
 ) -> Result<(), StepFault>
     requires others { (c : Cell) → (slot_at table.now.slots a).place ≡ Home c → c.heap.owner ≡ a
         → KnowsOthersOnly c }
+    requires untold { TellsNothing (TableTells table.now.slots) }
     requires known { known ≡ true → IsKnownSweep trace sweep.old (slot_at table.now.slots a) }
     ensures ok { OnOk result (ActsAt (collect_event a) (slot_at table.now.slots a)
         (λ c. (c.heap.owner ≡ a) × (sweep.new ≡ sweep_of trace c))) }
@@ -64,6 +67,7 @@ pub(crate) fn prepare_collect(
 ) -> Result<(), StepFault>
     requires others { (c : Cell) → (slot_at m.old.parts.table.slots a).place ≡ Home c → c.heap.owner ≡ a
         → KnowsOthersOnly c }
+    requires untold { TellsNothing (TableTells m.old.parts.table.slots) }
     requires known { known ≡ true → HasFound (collect_event a) m.old }
     ensures { Prepares (collect_event a) m.old m.new result }
 {

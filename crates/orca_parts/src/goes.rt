@@ -19,7 +19,7 @@ ghost use Rattle.actor_cell.specs.Goes.{out_of};
 ghost use Rattle.actor_cell.specs.Moves.{act_in};
 ghost use Rattle.letter_kinds.specs.Letters.{App as app, Inc as inc};
 ghost use Rattle.letter_kinds.specs.Load.{as_load};
-ghost use Rattle.letter_kinds.specs.Telling.{TellsOnly};
+ghost use Rattle.letter_kinds.specs.Telling.{TellsNothing, TellsOnly};
 ghost use Rattle.actor_table.specs.Telling.{TableTells};
 ghost use Rattle.orca_parts.specs.Away.{KeepsAway};
 ghost use Rattle.orca_parts.specs.Awaiting.{AwaitsMinted, IsAwaited};
@@ -115,6 +115,7 @@ fn find_turn(alloc: Global, m: &mut Core<'_>, known: bool, a: ActorName) -> Resu
     requires serials { (c : a_cell) → (slot_at m.old.parts.table.slots a).place ≡ Home c
         → c.heap.next + BODY_LIMIT < 2 ^ 64 }
     requires stands { StandsWell m.old }
+    requires untold { TellsNothing (TableTells m.old.parts.table.slots) }
     requires known { known ≡ true → HasFound (go_event a) m.old }
     ensures same { m.new ≡ record m.old {
       parts = record m.old.parts { turn = m.new.parts.turn; turned = m.new.parts.turned };
@@ -175,6 +176,7 @@ pub(crate) fn prepare_go(
     requires serials { (c : a_cell) → (slot_at m.old.parts.table.slots a).place ≡ Home c
         → c.heap.next + BODY_LIMIT < 2 ^ 64 }
     requires stands { StandsWell m.old }
+    requires untold { TellsNothing (TableTells m.old.parts.table.slots) }
     requires known { known ≡ true → HasFound (go_event a) m.old }
     ensures { Prepares (go_event a) m.old m.new result }
 {

@@ -1,6 +1,8 @@
 // Events of all kinds, prepared and done.
 
 ghost use Rattle.std.specs.Prelude.{◌≡◌, ◌≤◌, true};
+ghost use Rattle.letter_kinds.specs.Telling.{TellsNothing};
+ghost use Rattle.actor_table.specs.Telling.{TableTells};
 ghost use Rattle.orca_parts.specs.Core.{HasFound, StandsWell};
 ghost use Rattle.orca_parts.specs.Ready.{Applies, FitsEvent, Prepares};
 ghost use Rattle.orca_parts.specs.Steps.{CanStep, ReapsAtHome};
@@ -32,6 +34,7 @@ pub fn prepare(alloc: Global, m: &mut Core<'_>, e: &Event, known: bool) -> Resul
     requires home { ReapsAtHome e.now m.old.parts }
     requires known { known ≡ true → HasFound e.now m.old }
     requires stands { StandsWell m.old }
+    requires untold { TellsNothing (TableTells m.old.parts.table.slots) }
     ensures { Prepares e.now m.old m.new result }
 {
     match *e {

@@ -52,7 +52,7 @@ fn push_note(table: &ActorTable, notes: &mut VecDeque<Note>, a: ActorName)
 /// The idle actor takes the first of its letters; the memory of its arguments serves again. It takes no
 /// memory, and wakes nobody.
 pub(crate) fn apply_take(m: &mut Core<'_>, a: ActorName) -> Option<ActorName>
-    requires can { let x = slot_at m.old.parts.table.slots a in HasCell x (CanTakeHere a x.mail.letters) }
+    requires can { let x = slot_at m.old.parts.table.slots a in HasCell x (CanTakeHere a x.mail) }
     requires room { IsSome (note_taken a (seat_at (actors_of m.old.parts.table.slots) a))
         → deque_len m.old.parts.notes < deque_capacity m.old.parts.notes }
     ensures { Applies (take_event a) m.old m.new result }

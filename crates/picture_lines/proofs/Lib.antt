@@ -2,3 +2,4 @@ mod Gone
 mod Marks
 mod Spans
 pub mod Steps
+mod Untold

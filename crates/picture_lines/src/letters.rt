@@ -6,6 +6,7 @@ ghost use Rattle.behaviour_text.specs.Text.{line_of};
 ghost use Rattle.letter_kinds.specs.Holdings.{Row as any_row};
 ghost use Rattle.letter_kinds.specs.Letters.{as_letter};
 ghost use Rattle.letter_kinds.specs.Load.{as_load};
+ghost use Rattle.letter_kinds.specs.Telling.{TellsNothing, Told as told, ToldByOne, all_brought, brought_in};
 ghost use Rattle.orca_names.specs.declared.names.ObjName.{ObjName as object_name};
 ghost use Rattle.orca_names.specs.declared.names.Thing.{Thing as any_thing};
 ghost use Rattle.row_store.specs.Told.{told_block, told_row};
@@ -72,6 +73,7 @@ fn push_loads(out: &mut String, load: &Load) -> Result<(), AllocError>
 
 /// The lines of the rows that a letter brings.
 fn push_brought(out: &mut String, rows: &Load) -> Result<(), AllocError>
+    requires { TellsNothing (told rows.now) }
     ensures { OnOk result (string_bytes out.new
         ≡ string_bytes out.old ++ text_of_lines (map brings_line (as_load rows.now))) }
 {
@@ -93,6 +95,7 @@ fn push_amounts(out: &mut String, word: &str, things: &Amounts) -> Result<(), Al
 
 /// The lines of a letter.
 fn push_letter(out: &mut String, names: &Names, letter: &Letter) -> Result<(), AllocError>
+    requires { TellsNothing (told (all_brought (brought_in letter.now))) }
     ensures { OnOk result (string_bytes out.new
         ≡ string_bytes out.old ++ text_of_lines (letter_lines names.now (as_letter letter.now))) }
 {
@@ -115,6 +118,7 @@ fn push_letter(out: &mut String, names: &Names, letter: &Letter) -> Result<(), A
 
 /// The lines of the letters that wait for an actor.
 pub(crate) fn push_mail(out: &mut String, names: &Names, mail: &MailRow) -> Result<(), AllocError>
+    requires { TellsNothing (ToldByOne mail.now.brought) }
     ensures { OnOk result (string_bytes out.new
         ≡ string_bytes out.old ++ text_of_lines (flat_map (letter_lines names.now) mail.now.letters)) }
 {

@@ -1,7 +1,9 @@
 // The lines of an actor.
 
 ghost use Rattle.std.specs.Prelude.{◌≡◌, ◌++◌, OnOk, string_bytes};
+ghost use Rattle.letter_kinds.specs.Telling.{TellsNothing, ToldByOne};
 ghost use Rattle.actor_cell.specs.Cells.{as_cell};
+ghost use Rattle.actor_cell.specs.Tells.{Tells};
 ghost use Rattle.behaviour_text.specs.Text.{line_of};
 ghost use Rattle.machine_rules.specs.Actors.{seat};
 ghost use Rattle.picture_rules.specs.Words.{text_of_lines};
@@ -57,9 +59,11 @@ fn push_fields(out: &mut String, values: &[Value]) -> Result<(), AllocError>
 
 /// The lines of a cell.
 fn push_cell(out: &mut String, actor: ActorName, cell: &Cell) -> Result<(), AllocError>
+    requires { TellsNothing (Tells cell.now) }
     ensures { OnOk result (string_bytes out.new
         ≡ string_bytes out.old ++ text_of_lines (cell_lines actor (as_cell cell.now))) }
 {
+    cell.untold_are_here();
     push_actor(out, actor, cell)?;
     push_turn(out, &cell.frame)?;
     push_fields(out, cell.fields.values.as_slice())?;
@@ -69,7 +73,7 @@ fn push_cell(out: &mut String, actor: ActorName, cell: &Cell) -> Result<(), Allo
 }
 
 /// The lines of an actor that is present, with the letters that wait for it; behaviours have their
-/// names among these.
+/// names among these. No row of any of them lies in a block.
 ///
 /// # Errors
 /// `AllocError` where memory was refused.
@@ -80,6 +84,8 @@ pub fn push_seat(
     cell: &Cell,
     mail: &MailRow,
 ) -> Result<(), AllocError>
+    requires cell { TellsNothing (Tells cell.now) }
+    requires mail { TellsNothing (ToldByOne mail.now.brought) }
     ensures { OnOk result (string_bytes out.new ≡ string_bytes out.old
         ++ text_of_lines (seat_lines names.now actor (seat (as_cell cell.now) mail.now.letters))) }
 {

@@ -8,7 +8,7 @@ use Rattle.event_rule.specs.declared.event.Event.TheVariants.{Take, Go, Collect,
 use Rattle.actor_cell.specs.declared.cell.Cell.{Cell}
 use Rattle.actor_cell.specs.declared.found.Found.{Found}
 use Rattle.actor_cell.specs.Cells.{as_cell}
-use Rattle.actor_cell.specs.Founds.{IsFound}
+use Rattle.orca_parts.specs.Founds.{IsFoundUntold}
 use Rattle.machine_rules.specs.Actors.{Actors, cell_at}
 use Rattle.work_board.specs.Answered.{is_evaluated, segment}
 use Rattle.work_board.specs.declared.answers.Committed.{Committed}
@@ -98,7 +98,7 @@ pub record IsFoundOf (options : Options) (program : Program) (actors : Actors) (
   pub cell : Cell
   pub its : actor_of e ≡ Some cell.heap.owner
   pub there : cell_at actors cell.heap.owner ≡ Some (as_cell cell)
-  pub is : IsFound options program cell found
+  pub is : IsFoundUntold options program cell found
 
 -- a pass is split off, with this number
 abbrev pub GivesNumber : ℕ → Logged → Type 0

@@ -1,5 +1,7 @@
 // Claims, which take cells out of a hall, and their ends.
 
+ghost use Rattle.letter_kinds.specs.Telling.{TellsNothing};
+ghost use Rattle.actor_cell.specs.Tells.{Tells};
 ghost use Rattle.std.specs.Prelude.{◌≡◌, true, IfErr, IfNone, IfOk, IfSome, None, OnErr, OnOk, Some};
 ghost use Rattle.hall_rules.specs.Causes.{event_at};
 ghost use Rattle.seat_hall.specs.declared.item.Item.TheVariants.{Ended};
@@ -114,6 +116,7 @@ impl<'a> Hall<'a> {
     /// Puts the pass's cell back as it was, and ends the claim. It takes no memory.
     pub(crate) fn put_back(&mut self, alloc: Global, pass: u32, room: CellRoom)
         requires has { HasIn pass room.heap.owner room self.old.logged }
+        requires untold { TellsNothing (Tells room) }
         ensures { let i = Ended pass room.heap.owner in
             self.new ≡ says (after self.old.logged i) i }
     {

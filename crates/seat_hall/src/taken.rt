@@ -2,7 +2,9 @@
 
 ghost use Rattle.std.specs.Prelude.{◌≡◌, ◌+◌, ◌<◌, ◌^◌, OnOk, Some};
 ghost use Rattle.event_rule.specs.Events.{actor_of};
-ghost use Rattle.actor_cell.specs.Founds.{IsFound};
+ghost use Rattle.letter_kinds.specs.Telling.{TellsNothing};
+ghost use Rattle.actor_cell.specs.Tells.{Tells};
+ghost use Rattle.orca_parts.specs.Founds.{IsFoundUntold};
 ghost use Rattle.actor_cell.specs.Sweeps.{KnowsOthersOnly};
 ghost use Rattle.work_board.specs.Answered.{is_evaluated};
 
@@ -28,6 +30,7 @@ pub struct Taken<'a> {
     ghost its: { actor_of event ≡ Some cell.heap.owner },
     ghost serials: { cell.heap.next + 1024 < 2 ^ 64 },
     ghost others: { KnowsOthersOnly cell },
+    ghost untold: { TellsNothing (Tells cell) },
 }
 
 impl<'a> Taken<'a> {
@@ -37,7 +40,7 @@ impl<'a> Taken<'a> {
     /// `NoMemory` where memory was refused.
     pub(crate) fn find_in(&self, alloc: Global, found: &mut Found) -> Result<(), NoMemory>
         ensures { let taken = self.now in
-            OnOk result (IsFound taken.options taken.code.now taken.cell found.new) }
+            OnOk result (IsFoundUntold taken.options taken.code.now taken.cell found.new) }
     {
         self.cell.inside().find_in(
             alloc,

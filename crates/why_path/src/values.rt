@@ -50,6 +50,7 @@ pub(crate) fn row_left<'a>(orca: &'a Orca<'_>, n: ObjName) -> &'a [Value]
     let Some(seat) = seat_of(orca, n.owner) else {
         return &[];
     };
+    seat.cell.untold_are_here();
     match seat.cell.heap.row(n) {
         Lent::Here(values) => values,
         Lent::Nothing => &[],

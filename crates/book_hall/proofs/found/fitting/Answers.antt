@@ -4,7 +4,7 @@ use Rattle.orca_names.specs.declared.options.Options.{Options}
 use Rattle.behaviour_code.specs.declared.code.Program.{Program}
 use Rattle.event_rule.specs.Events.{actor_of}
 use Rattle.actor_cell.specs.Cells.{IsSame}
-use Rattle.actor_cell.specs.Founds.{IsFound}
+use Rattle.orca_parts.specs.Founds.{IsFoundUntold}
 use Rattle.actor_table.specs.Slots.{home_of, slot_at}
 use Rattle.hall_rules.proofs.Fitting.{still_found}
 use Rattle.book_hall.proofs.found.fitting.Goals as goal
@@ -21,5 +21,5 @@ returns-then-has_cell c = λ known is.
     still_found m c.args.e.now known.value copy.cell its
     (subst (λ a. IsSomeAnd (home_of (slot_at m.kept.table.slots a)) (λ k. IsSame k copy.cell)) there
     (c.has_cell.ensures.0 c.if-has_cell.true))
-    (subst (λ (x : Options × Program). IsFound x.0 x.1 copy.cell known.value) (λ i. (own.options_is i, own.program_is i))
+    (subst (λ (x : Options × Program). IsFoundUntold x.0 x.1 copy.cell known.value) (λ i. (own.options_is i, own.program_is i))
     (proposal.own known.value (c.boxed.ensures known is)))

@@ -12,4 +12,4 @@ returns-in_default c =
     let sums = c.args.sums.now in
     sym (map_itself (with_mail a []) (no_mail a) sums)
     ∙ ap (λ ls. map (with_mail a ls) sums)
-    (sym (no_letters (seat_at c.args.orca.now.state.actors a) (sym c.in_default.ensures)))
+    (sym (no_letters (seat_at c.args.orca.now.state.actors a) (sym c.in_default.ensures.letters)))

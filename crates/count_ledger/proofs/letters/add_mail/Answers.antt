@@ -26,7 +26,7 @@ add_letter-requires-clause-room c =
     let l = as_letter c.at.result.now in
     let f = with_mail to (take i ls) in
     let room = All-weaker (λ s. Fits (with_mail to ls s)) (λ s. Fits (with_mail to (l ∷ []) (f s)))
-    (next_fits to ls i l c.at.ensures) sums c.requires.room in
+    (next_fits to ls i l c.at.ensures.letter) sums c.requires.room in
     subst (HasRoomForMail to (l ∷ [])) (sym c.loop-i.invariant)
     (All-map (λ (s : Sums). Fits (with_mail to (l ∷ []) s)) f sums room)
 
@@ -40,4 +40,4 @@ loop-i-preserved c =
     c.add_letter.ensures ∙ ap (map (with_mail to (l ∷ []))) c.loop-i.invariant
     ∙ map-map (with_mail to (l ∷ [])) (with_mail to (take i ls)) sums
     ∙ map_same (λ s. with_mail to (l ∷ []) (with_mail to (take i ls) s)) (with_mail to (take (i + 1) ls))
-    (next_mail to ls i l c.at.ensures) sums
+    (next_mail to ls i l c.at.ensures.letter) sums

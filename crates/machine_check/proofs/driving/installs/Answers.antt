@@ -1,5 +1,8 @@
-use Rattle.std.proofs.Common.{subst, ◌∙◌}
+use Rattle.std.proofs.Common.{rules, subst, ◌∙◌}
 use Rattle.behaviour_code.specs.WellFormed.{IsWellFormed}
+use Rattle.letter_kinds.specs.Telling.{Told}
+use Rattle.actor_cell.specs.Tells.{Tells, told_found}
+use Rattle.orca_parts.proofs.Untold.{still_untold, untold_holds}
 use Rattle.machine_check.proofs.Finding.{can_find, kept_by}
 use Rattle.machine_check.proofs.driving.installs.Goals as goal
 
@@ -18,6 +21,13 @@ found-requires-clause-others c =
     let driven = c.requires.driven in
     (can_find c.args.machine.now c.args.drive.now.code.now c.args.drive.now.trace driven.own reached.book reached.run
     c.requires.young good driven.home c.args.a c.in-Some.cell.now c.in-Some.ensures.cell c.in-Some.ensures.owner).others
+
+pub found-requires-clause-stand : goal.found-requires-clause-stand
+found-requires-clause-stand c = untold_holds _ (Tells c.in-Some.cell.now) c.in-Some.ensures.untold
+
+pub install-requires-clause-found : goal.install-requires-clause-found
+install-requires-clause-found c = λ a acts x home.
+    (search rules, still_untold (Tells c.in-Some.cell.now) (Told (told_found c.in-Ok.found)) c.in-Some.ensures.untold c.in-Ok.ensures.told)
 
 pub returns-in-Ok : goal.returns-in-Ok
 returns-in-Ok c =

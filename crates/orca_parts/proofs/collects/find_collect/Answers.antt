@@ -7,6 +7,8 @@ use Rattle.actor_table.specs.Slots.{slot_at}
 use Rattle.orca_parts.proofs.Homes.{home_is}
 use Rattle.orca_parts.proofs.Preparing.{acts_here, acts_home, may_here, not_acting, rests_dirty}
 use Rattle.orca_parts.proofs.collects.find_collect.Goals as goal
+use Rattle.actor_cell.specs.Tells.{Tells}
+use Rattle.orca_parts.proofs.Untold.{home_untold, untold_holds}
 
 pub returns-in_default : goal.returns-in_default
 returns-in_default c = record {
@@ -31,7 +33,11 @@ pub find_collect-requires : goal.find_collect-requires
 find_collect-requires c =
     let x = slot_at c.args.table.now.slots c.args.a in
     let its = acts_home (Collect c.args.a) x c.in-Some.cell.now c.in-Some.ensures.cell in
-    c.requires.others c.in-Some.cell.now (home_is x c.in-Some.cell.now its.0) c.in-Some.ensures.owner
+    let home = home_is x c.in-Some.cell.now its.0 in
+    record {
+      others = c.requires.others c.in-Some.cell.now home c.in-Some.ensures.owner;
+      stand = untold_holds _ (Tells c.in-Some.cell.now) (home_untold c.args.table.now.slots c.args.a c.in-Some.cell.now c.requires.untold home);
+    }
 
 pub returns : goal.returns
 returns c = record {

@@ -13,6 +13,9 @@ use Rattle.orca_parts.proofs.Giving.{seat_here}
 use Rattle.orca_parts.proofs.Homes.{home_is}
 use Rattle.orca_parts.proofs.Preparing.{acts_home, may_here, not_acting}
 use Rattle.orca_parts.proofs.goes.find_turn.Goals as goal
+use Rattle.letter_kinds.specs.Telling.{Told}
+use Rattle.actor_cell.specs.Tells.{Tells, told_out}
+use Rattle.orca_parts.proofs.Untold.{home_untold, still_untold, untold_holds}
 
 pub returns-in_default : goal.returns-in_default
 returns-in_default c = record {
@@ -53,9 +56,12 @@ find_again-requires c =
     let is = sym c.in-Some-awaits.ensures in
     let home = home_is (slot_at slots a) cell (acts_home (Go a) (slot_at slots a) cell c.in-Some.ensures.cell).0 in
     let its = awaited_its a parts.turned.awaited letter is in
-    subst (λ me. Awaits m.options.trace m.code.now me (as_cell cell) parts.turn parts.turned letter) (its ∙ sym c.in-Some.ensures.owner)
-    (c.requires.stands c.if-stands.true letter (as_cell cell) (awaited_is a parts.turned.awaited letter is)
-    (ap (cell_at (actors_of slots)) its ∙ ap cell_of (seat_here slots a cell home)))
+    record {
+      awaits = subst (λ me. Awaits m.options.trace m.code.now me (as_cell cell) parts.turn parts.turned letter) (its ∙ sym c.in-Some.ensures.owner)
+          (c.requires.stands c.if-stands.true letter (as_cell cell) (awaited_is a parts.turned.awaited letter is)
+          (ap (cell_at (actors_of slots)) its ∙ ap cell_of (seat_here slots a cell home)));
+      stand = untold_holds _ (Tells cell) (home_untold slots a cell c.requires.untold home);
+    }
 
 pub find_go-requires : goal.find_go-requires
 find_go-requires c =
@@ -67,6 +73,7 @@ find_go-requires c =
     record {
       running = goes_framed cell x.mail.letters (may_here may_go x cell home its.1);
       serials = c.requires.serials cell home;
+      stand = untold_holds _ (Tells cell) (home_untold c.args.m.now.parts.table.slots a cell c.requires.untold home);
     }
 
 pub returns : goal.returns
@@ -78,10 +85,11 @@ returns c =
     let home = home_is x cell (acts_home (Go a) x cell c.in-Some.ensures.cell).0 in
     let parts : Parts = record m.parts { turn = c.find_go.new.turn; turned = c.find_go.new.found } in
     let does = c.in_ok-find_go.ensures in
+    let untold = still_untold (Tells cell) (Told (told_out parts.turned)) (home_untold m.parts.table.slots a cell c.requires.untold home) does.told in
     record {
       same = refl;
       stands = λ on. awaited_at m.options m.code.now a parts cell home c.in-Some.ensures.owner does.found.awaited;
-      found = found_at m.options m.code.now a parts.turn parts.turned x cell home c.in-Some.ensures.owner does.found.told;
+      found = found_at m.options m.code.now a parts.turn parts.turned x cell home c.in-Some.ensures.owner (does.found.told, untold);
       few = does.few;
       fault = tt;
     }
@@ -94,12 +102,13 @@ returns-in-Some-awaits c =
     let cell = c.in-Some.cell.now in
     let home = home_is x cell (acts_home (Go a) x cell c.in-Some.ensures.cell).0 in
     let parts : Parts = record m.parts { turned = c.find_again.new.found } in
-    let does = c.in_ok-find_again.ensures.found in
+    let does = c.in_ok-find_again.ensures in
+    let untold = still_untold (Tells cell) (Told (told_out parts.turned)) (home_untold m.parts.table.slots a cell c.requires.untold home) does.told in
     let checked = subst IsChecked c.program-program.ensures.value c.program-program.ensures.kept in
     record {
       same = refl;
-      stands = λ on. awaited_at m.options m.code.now a parts cell home c.in-Some.ensures.owner does.awaited;
-      found = found_at m.options m.code.now a parts.turn parts.turned x cell home c.in-Some.ensures.owner does.told;
-      few = found_few m.options m.code.now cell.heap.owner parts.turn parts.turned cell checked.good does.told;
+      stands = λ on. awaited_at m.options m.code.now a parts cell home c.in-Some.ensures.owner does.found.awaited;
+      found = found_at m.options m.code.now a parts.turn parts.turned x cell home c.in-Some.ensures.owner (does.found.told, untold);
+      few = found_few m.options m.code.now cell.heap.owner parts.turn parts.turned cell checked.good (does.found.told, untold);
       fault = tt;
     }

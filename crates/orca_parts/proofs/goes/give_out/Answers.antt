@@ -7,7 +7,7 @@ use Rattle.orca_parts.specs.Awaiting.{AwaitedIn}
 use Rattle.orca_parts.proofs.Awaiting.{awaited_without, push_awaits}
 use Rattle.orca_parts.proofs.goes.give_out.Goals as goal
 use Rattle.letter_kinds.specs.Telling.{TellsOnly}
-use Rattle.actor_cell.specs.Tells.{told_out, told_where}
+use Rattle.actor_cell.specs.Tells.{told_out, where_sent}
 use Rattle.actor_table.specs.Telling.{TableTells}
 use Rattle.actor_table.proofs.Telling.{tells_more}
 
@@ -34,7 +34,7 @@ returns-in-Post-clause-told c =
     let t = m.turned in
     let kept : c.keep_turn.new.self ≡ _ = c.keep_turn.ensures in
     let told = c.post_letter.ensures.posts.told in
-    subst (λ d. TellsOnly (TableTells m.table.slots) (told_where d (t.load ++ t.rows)) (TableTells c.post_letter.new.table.slots)) (sym c.in-Post.is)
+    subst (λ d. TellsOnly (TableTells m.table.slots) (where_sent d (t.load ++ t.rows)) (TableTells c.post_letter.new.table.slots)) (sym c.in-Post.is)
     (subst (λ (k : Parts). TellsOnly (TableTells k.table.slots) (k.turned.load ++ k.turned.rows) (TableTells c.post_letter.new.table.slots)) kept told)
 
 pub returns-in-Mint-clause-told : goal.returns-in-Mint-clause-told

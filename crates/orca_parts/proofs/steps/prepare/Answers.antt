@@ -16,6 +16,7 @@ prepare_go-requires c =
     record {
       serials = λ x home. (can.0 (as_cell x) (slot_at slots a).mail.letters (seat_here slots a x home)).serials;
       stands = c.requires.stands;
+      untold = c.requires.untold;
       known = λ on. subst (λ e. HasFound e m) c.in-Go.is (c.requires.known on);
     }
 
@@ -24,6 +25,7 @@ prepare_collect-requires c =
     let m = c.args.m.now in
     record {
       others = subst (CanStep m.options m.code.now m.parts) c.in-Collect.is c.requires.can;
+      untold = c.requires.untold;
       known = λ on. subst (λ e. HasFound e m) c.in-Collect.is (c.requires.known on);
     }
 

@@ -11,6 +11,7 @@ use Rattle.letter_kinds.proofs.Loads.{long_load, seen_at}
 use Rattle.picture_rules.specs.Words.{text_of_lines, thing_word, value_words}
 use Rattle.picture_rules.specs.Seats.{brings_line}
 use Rattle.picture_lines.proofs.Steps.{next_line}
+use Rattle.picture_lines.proofs.Untold.{told_at_hand}
 use Rattle.picture_lines.proofs.letters.push_brought.Goals as goal
 
 pub values_of-requires : goal.values_of-requires
@@ -22,7 +23,7 @@ values_of-requires c =
     let told = c.loop-thing-item.result in
     let seen = seen_at memory items rows c.parts.ensures.load i told c.loop-thing-test.true c.loop-thing-item.is in
     let within : i < length rows = omega (arith, long_load memory items rows c.parts.ensures.load, c.loop-thing-test.true) in
-    ap (λ (e : Thing × Lying). e.1.block) seen ∙ c.parts.ensures.here i (lies_as memory told) within
+    told_at_hand memory rows i told.0 told.1 within seen c.parts.ensures.known c.requires
 
 pub loop-thing-preserved : goal.loop-thing-preserved
 loop-thing-preserved c =

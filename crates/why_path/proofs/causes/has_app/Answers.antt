@@ -13,7 +13,7 @@ loop-i-preserved c =
     let i = c.loop-i.i in
     let l = as_letter c.at.result.now in
     let within : i < length ls = omega (arith, c.loop-i-test.true, c.len-i-end.ensures) in
-    let is : get_or ls i l ≡ l = get_or_from_slice_get ls i l l c.at.ensures in
+    let is : get_or ls i l ≡ l = get_or_from_slice_get ls i l l c.at.ensures.letter in
     let none : is_app (get_or ls i l) ≡ false = ap is_app is ∙ sym c.is_app.ensures ∙ c.if-is_app.false in
     list_any_more is_app ls i l within ∙ (λ k. c.loop-i.invariant k || none k)
 
@@ -23,7 +23,7 @@ returns-then-is_app c =
     let i = c.loop-i.i in
     let l = as_letter c.at.result.now in
     let within : i < length ls = omega (arith, c.loop-i-test.true, c.len-i-end.ensures) in
-    let is : get_or ls i l ≡ l = get_or_from_slice_get ls i l l c.at.ensures in
+    let is : get_or ls i l ≡ l = get_or_from_slice_get ls i l l c.at.ensures.letter in
     sym (list_any_at is_app ls i l within (ap is_app is ∙ sym c.is_app.ensures ∙ c.if-is_app.true))
 
 pub returns : goal.returns

@@ -15,7 +15,7 @@ loop-k-preserved c =
     let within : c.loop-k.k < length ls = omega (arith, c.loop-k-test.true, c.len-k-end.ensures) in
     let none = c.name_none_loose.ensures.0 c.if-not-name_none_loose.false in
     all_more (λ (m : Letter). All (NamesNoneLoose rs) (args_of m)) ls c.loop-k.k l within
-    (sym (get_or_from_slice_get ls c.loop-k.k l l c.at.ensures)) c.loop-k.invariant
+    (sym (get_or_from_slice_get ls c.loop-k.k l l c.at.ensures.letter)) c.loop-k.invariant
     (subst (All (NamesNoneLoose rs)) c.args_of.ensures.value none)
 
 pub returns-then-not-name_none_loose : goal.returns-then-not-name_none_loose
@@ -25,7 +25,7 @@ returns-then-not-name_none_loose c =
     let l = as_letter c.at.result.now in
     let within : c.loop-k.k < length ls = omega (arith, c.loop-k-test.true, c.len-k-end.ensures) in
     not_all (λ (m : Letter). All (NamesNoneLoose rs) (args_of m)) ls c.loop-k.k l within
-    (sym (get_or_from_slice_get ls c.loop-k.k l l c.at.ensures))
+    (sym (get_or_from_slice_get ls c.loop-k.k l l c.at.ensures.letter))
     (λ none. not_so c.name_none_loose.ensures c.if-not-name_none_loose.true
     (subst (All (NamesNoneLoose rs)) (sym c.args_of.ensures.value) none))
 

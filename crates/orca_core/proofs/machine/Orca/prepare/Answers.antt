@@ -6,6 +6,8 @@ use Rattle.orca_core.specs.Machine.{IsSame, Machine, ReapsNoneAway}
 use Rattle.orca_parts.proofs.Readied.{fits_home}
 use Rattle.orca_core.proofs.Reached.{can_step, early_still, reached_still, reaps_at_home, same_still}
 use Rattle.orca_core.proofs.machine.Orca.prepare.Goals as goal
+use Rattle.actor_table.specs.Telling.{TableTells}
+use Rattle.orca_parts.proofs.Untold.{still_untold}
 
 pub prepare-requires-clause-can : goal.prepare-requires-clause-can
 prepare-requires-clause-can c =
@@ -20,12 +22,12 @@ prepare-requires-clause-home c =
 pub invariant_of-self : goal.invariant_of-self
 invariant_of-self c =
     let m = c.self.inside in
-    record { reached = reached_still m.core m.steps c.prepare.new.m c.prepare.ensures.same c.self.invariant.reached; stands = c.prepare.ensures.stands c.self.invariant.stands }
+    record { reached = reached_still m.core m.steps c.prepare.new.m c.prepare.ensures.same c.self.invariant.reached; stands = c.prepare.ensures.stands c.self.invariant.stands; untold = still_untold (TableTells m.core.parts.table.slots) (TableTells c.prepare.new.m.parts.table.slots) c.self.invariant.untold c.prepare.ensures.same.room.told }
 
 pub invariant_of-self-2 : goal.invariant_of-self-2
 invariant_of-self-2 c =
     let m = c.self.inside in
-    record { reached = reached_still m.core m.steps c.prepare.new.m c.prepare.ensures.same c.self.invariant.reached; stands = c.prepare.ensures.stands c.self.invariant.stands }
+    record { reached = reached_still m.core m.steps c.prepare.new.m c.prepare.ensures.same c.self.invariant.reached; stands = c.prepare.ensures.stands c.self.invariant.stands; untold = still_untold (TableTells m.core.parts.table.slots) (TableTells c.prepare.new.m.parts.table.slots) c.self.invariant.untold c.prepare.ensures.same.room.told }
 
 pub returns-clause-same : goal.returns-clause-same
 returns-clause-same c =

@@ -9,6 +9,8 @@ use Rattle.orca_parts.proofs.Prepared.{keeps_then}
 use Rattle.orca_parts.proofs.Readied.{fits_home}
 use Rattle.orca_core.proofs.Reached.{can_step, early_still, next_still, reached_still, reaps_at_home, reaps_still, same_still}
 use Rattle.orca_core.proofs.machine.Orca.prepare_from.Goals as goal
+use Rattle.actor_table.specs.Telling.{TableTells}
+use Rattle.orca_parts.proofs.Untold.{still_untold}
 
 pub prepare-requires-clause-can : goal.prepare-requires-clause-can
 prepare-requires-clause-can c =
@@ -24,6 +26,11 @@ prepare-requires-clause-home c =
     reaps_at_home mid m.steps (reached_still m.core m.steps mid c.stand.ensures.same c.self.invariant.reached) c.args.e
     (reaps_still m.core m.steps mid c.stand.ensures.same c.args.e (subst (ReapsNoneAway c.args.e) (sym c.self.view_is) c.requires.home))
 
+pub prepare-requires-clause-untold : goal.prepare-requires-clause-untold
+prepare-requires-clause-untold c =
+    let m = c.self.inside in
+    still_untold (TableTells m.core.parts.table.slots) (TableTells c.stand.new.m.parts.table.slots) c.self.invariant.untold c.stand.ensures.same.room.told
+
 pub prepare-requires-clause-known : goal.prepare-requires-clause-known
 prepare-requires-clause-known c = λ on. c.stand.ensures.known c.args.e (subst (IsFoundIn c.args.e c.args.found.now) (sym c.self.view_is) c.requires.found)
 
@@ -31,13 +38,13 @@ pub invariant_of-self : goal.invariant_of-self
 invariant_of-self c =
     let m = c.self.inside in
     let same = keeps_then m.core c.stand.new.m c.prepare.new.m c.stand.ensures.same c.prepare.ensures.same in
-    record { reached = reached_still m.core m.steps c.prepare.new.m same c.self.invariant.reached; stands = c.prepare.ensures.stands (λ on. let z = sym c.stand.ensures.stands ∙ on in cc) }
+    record { reached = reached_still m.core m.steps c.prepare.new.m same c.self.invariant.reached; stands = c.prepare.ensures.stands (λ on. let z = sym c.stand.ensures.stands ∙ on in cc); untold = still_untold (TableTells m.core.parts.table.slots) (TableTells c.prepare.new.m.parts.table.slots) c.self.invariant.untold same.room.told }
 
 pub invariant_of-self-2 : goal.invariant_of-self-2
 invariant_of-self-2 c =
     let m = c.self.inside in
     let same = keeps_then m.core c.stand.new.m c.prepare.new.m c.stand.ensures.same c.prepare.ensures.same in
-    record { reached = reached_still m.core m.steps c.prepare.new.m same c.self.invariant.reached; stands = c.prepare.ensures.stands (λ on. let z = sym c.stand.ensures.stands ∙ on in cc) }
+    record { reached = reached_still m.core m.steps c.prepare.new.m same c.self.invariant.reached; stands = c.prepare.ensures.stands (λ on. let z = sym c.stand.ensures.stands ∙ on in cc); untold = still_untold (TableTells m.core.parts.table.slots) (TableTells c.prepare.new.m.parts.table.slots) c.self.invariant.untold same.room.told }
 
 pub returns-clause-same : goal.returns-clause-same
 returns-clause-same c =

@@ -24,6 +24,7 @@ invariant_of-result c =
         early = omega arith;
       };
       stands = λ on. cc;
+      untold = c.in_ok-table.ensures.untold;
     }
 
 -- where one actor is at home, none is away

@@ -1,7 +1,7 @@
 use Rattle.std.proofs.Common.{◌≡◌, None, Some, sym, subst}
 use Rattle.orca_names.specs.declared.options.Options.{Options}
 use Rattle.behaviour_code.specs.declared.code.Program.{Program}
-use Rattle.actor_cell.specs.Founds.{IsFound}
+use Rattle.orca_parts.specs.Founds.{IsFoundUntold}
 use Rattle.seat_hall.specs.Answers.{EntersOr, IsFoundOf}
 use Rattle.seat_hall.specs.Halls.{HallView}
 use Rattle.seat_hall.specs.Log.{state_in}
@@ -19,7 +19,7 @@ enter-requires c =
       cell = taken.cell;
       its = taken.its;
       there = c.requires.claim.has.cell;
-      is = subst (λ (x : Options × Program). IsFound x.0 x.1 taken.cell found.value)
+      is = subst (λ (x : Options × Program). IsFoundUntold x.0 x.1 taken.cell found.value)
           (λ i. (c.requires.claim.options i, c.requires.claim.program i))
           (c.requires.found found is);
     })

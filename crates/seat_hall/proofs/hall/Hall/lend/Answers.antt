@@ -3,7 +3,9 @@ use Rattle.std.specs.Prelude.{if◌then◌else◌, option_map}
 use Rattle.behaviour_code.specs.WellFormed.{IsWellFormed}
 use Rattle.machine_rules.specs.Actors.{cell_at}
 use Rattle.actor_cell.specs.declared.cell.Cell.{Cell}
+use Rattle.letter_kinds.specs.Telling.{TellsNothing}
 use Rattle.actor_cell.specs.Cells.{as_cell}
+use Rattle.actor_cell.specs.Tells.{Tells}
 use Rattle.hall_rules.specs.Causes.{event_at}
 use Rattle.hall_rules.proofs.Firsts.{event_of_actor}
 use Rattle.hall_rules.proofs.Keeping.{can_find}
@@ -52,4 +54,5 @@ invariant_of-result c =
       its = event_of_actor (state_in c.args.self.now.logged) a c.args.event c.requires.event ∙ ap Some (sym owner);
       serials = can.serials;
       others = can.others;
+      untold = subst (λ x. TellsNothing (Tells x)) (sym c.fill-cell.ensures.cell) c.in-Some.ensures.untold;
     }

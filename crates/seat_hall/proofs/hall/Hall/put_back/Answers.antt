@@ -1,5 +1,6 @@
 use Rattle.std.proofs.Common.{◌≡◌, ℕ, None, Some, set, sym, ap, subst, ◌∙◌}
-use Rattle.actor_cell.proofs.Tells.{here_untold}
+use Rattle.letter_kinds.specs.Telling.{TellsNothing}
+use Rattle.actor_cell.specs.Tells.{Tells}
 use Rattle.seat_hall.specs.Halls.{HallView, HallKeeps}
 use Rattle.seat_hall.specs.Log.{claim_in}
 use Rattle.seat_hall.proofs.Kept.{kept_ended, room_is_out}
@@ -12,10 +13,8 @@ empty-cell-requires c =
     ap (λ (h : HallView). claim_in h.logged.claims c.args.room.heap.owner) c.self.view_is ∙ c.requires.has.claimed in
     room_is_out s.code.now s.budget s.orca s.book s.claims.items s.rooms c.self.invariant c.args.room.heap.owner c.args.pass mine
 
-pub put_back-requires-clause-told : goal.put_back-requires-clause-told
-put_back-requires-clause-told c = λ n row block told.
-    let cell = c.empty-cell.result in
-    absurd (here_untold cell.heap cell.foreign cell.known cell.here n row block told)
+pub put_back-requires-clause-untold : goal.put_back-requires-clause-untold
+put_back-requires-clause-untold c = subst (λ cell. TellsNothing (Tells cell)) (sym c.empty-cell.ensures.cell) c.requires.untold
 
 pub invariant_of-self : goal.invariant_of-self
 invariant_of-self c =

@@ -22,7 +22,7 @@ loop-k-preserved c =
     let l = as_letter c.at.result.now in
     let args = c.args_of.result.now in
     let place : 0 + k ≡ k = omega arith in
-    let whole = letters_more 0 ls k l c.at.ensures
+    let whole = letters_more 0 ls k l c.at.ensures.letter
     ∙ ap (λ j. leads_of_letters 0 (take k ls) ++ leads_from (edges.Letter j) 0 (args_of l)) place
     ∙ ap (λ vs. leads_of_letters 0 (take k ls) ++ leads_from (edges.Letter k) 0 vs) (sym c.args_of.ensures.value) in
     record {

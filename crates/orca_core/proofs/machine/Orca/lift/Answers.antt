@@ -1,0 +1,22 @@
+use Rattle.std.proofs.Common.{subst, sym}
+use Rattle.actor_table.specs.Telling.{TableTells}
+use Rattle.orca_parts.specs.Awaiting.{AwaitedIn}
+use Rattle.orca_parts.specs.Core.{core_state}
+use Rattle.orca_parts.proofs.Untold.{still_untold}
+use Rattle.orca_core.specs.Machine.{IsReached}
+use Rattle.orca_core.proofs.Untold.{lent_untold}
+use Rattle.orca_core.proofs.machine.Orca.lift.Goals as goal
+
+pub invariant_of-self : goal.invariant_of-self
+invariant_of-self c =
+    let m = c.self.inside in
+    let parts = m.core.parts in
+    let does = c.lift.ensures in
+    record {
+      reached = subst (λ xs. IsReached (record (core_state m.core) { actors = xs }) m.steps) (sym does.actors) c.self.invariant.reached;
+      stands = λ on. subst (AwaitedIn m.core.options.trace m.core.code.now parts.turn parts.turned) (sym does.actors) (c.self.invariant.stands on);
+      untold = still_untold (TableTells parts.table.slots) (TableTells c.lift.new.self.slots) c.self.invariant.untold does.told;
+    }
+
+pub returns-clause-untold : goal.returns-clause-untold
+returns-clause-untold c = lent_untold c.self.inside.core.parts.table.slots c.args.a c.lift.result c.self.invariant.untold c.lift.ensures.cell
