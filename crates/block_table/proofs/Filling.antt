@@ -1,7 +1,7 @@
 -- Names that take blocks.
 use Rattle.std.proofs.Common.{◌≡◌, ◌⊎◌, ℕ, zero, suc, ◌+◌, ◌-◌, ◌<◌, ◌≤◌, List, [], ◌∷◌, length, set, slice_get, Option, Some, None, refl, ap, arith, inl, inr, ⊎_elim}
 use Rattle.orca_names.specs.declared.names.ObjName.{ObjName}
-use Rattle.block_table.specs.Blocks.{Blocks, count_free, fill}
+use Rattle.block_table.specs.Blocks.{OneBlockEach, Blocks, count_free, fill}
 use Rattle.block_table.specs.Told.{IsLowestFree}
 
 -- it stands among these
@@ -10,9 +10,6 @@ Among ns n = (i : ℕ) × (slice_get ns i ≡ Some n)
 
 abbrev pub Apart : List ObjName → Type 0
 Apart ns = (i j : ℕ) (n : ObjName) → slice_get ns i ≡ Some n → slice_get ns j ≡ Some n → i ≡ j
-
-abbrev pub Once : Blocks → Type 0
-Once blocks = (j k : ℕ) (n : ObjName) → slice_get blocks j ≡ Some (Some n) → slice_get blocks k ≡ Some (Some n) → j ≡ k
 
 -- what is there stays there
 pub fill_old : (ns : List ObjName) (bs : Blocks) (k : ℕ) (n : ObjName) → slice_get bs k ≡ Some (Some n)
@@ -52,20 +49,20 @@ fill_all (m ∷ ns) (Some x ∷ bs) room n came =
 apart_tail : (m : ObjName) (ns : List ObjName) → Apart (m ∷ ns) → Apart ns
 apart_tail m ns h = λ i j n e f. let s = h (suc i) (suc j) n e f in omega arith
 
-once_tail : (b : Option ObjName) (bs : Blocks) → Once (b ∷ bs) → Once bs
+once_tail : (b : Option ObjName) (bs : Blocks) → OneBlockEach (b ∷ bs) → OneBlockEach bs
 once_tail b bs h = λ j k n e f. let s = h (suc j) (suc k) n e f in omega arith
 
 -- one that stands nowhere behind it may stand first
 places : (m : ObjName) (bs : Blocks) → ((k : ℕ) (n : ObjName) → m ≡ n → slice_get bs k ≡ Some (Some n) → ⊥)
-    → Once bs → Once (Some m ∷ bs)
+    → OneBlockEach bs → OneBlockEach (Some m ∷ bs)
 places m bs again once zero zero n e f = refl
 places m bs again once zero (suc k) n e f = let is : m ≡ n = cc in absurd (again k n is f)
 places m bs again once (suc j) zero n e f = let is : m ≡ n = cc in absurd (again j n is e)
 places m bs again once (suc j) (suc k) n e f = ap suc (once j k n e f)
 
 -- each has one block, where none that comes had one
-pub fill_once : (ns : List ObjName) (bs : Blocks) → Apart ns → Once bs
-    → ((n : ObjName) → Among ns n → (k : ℕ) → slice_get bs k ≡ Some (Some n) → ⊥) → Once (fill ns bs)
+pub fill_once : (ns : List ObjName) (bs : Blocks) → Apart ns → OneBlockEach bs
+    → ((n : ObjName) → Among ns n → (k : ℕ) → slice_get bs k ≡ Some (Some n) → ⊥) → OneBlockEach (fill ns bs)
 unfolding fill
 fill_once [] bs apart once new = once
 fill_once (m ∷ ns) [] apart once new = once

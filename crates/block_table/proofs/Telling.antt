@@ -13,12 +13,12 @@ use Rattle.block_table.specs.declared.table.TheConstants.{BLOCKS_LIMIT}
 use Rattle.block_table.specs.Told.{AreTold, HasObject, IsLowestFree}
 use Rattle.block_table.proofs.Filling.{free_block}
 
-get-set_same : {A : Type 0} (xs : List A) (k : ℕ) (x : A) → k < length xs → slice_get (set xs k x) k ≡ Some x
+pub get-set_same : {A : Type 0} (xs : List A) (k : ℕ) (x : A) → k < length xs → slice_get (set xs k x) k ≡ Some x
 get-set_same [] k x h = absurd (omega arith)
 get-set_same (y ∷ xs) zero x h = refl
 get-set_same (y ∷ xs) (suc k) x h = get-set_same xs k x (omega arith)
 
-get-set_other : {A : Type 0} (xs : List A) (k j : ℕ) (x : A) → j ≢ k → slice_get (set xs k x) j ≡ slice_get xs j
+pub get-set_other : {A : Type 0} (xs : List A) (k j : ℕ) (x : A) → j ≢ k → slice_get (set xs k x) j ≡ slice_get xs j
 get-set_other [] k j x other = refl
 get-set_other (y ∷ xs) zero zero x other = absurd (other refl)
 get-set_other (y ∷ xs) zero (suc j) x other = refl

@@ -16,10 +16,9 @@ use Rattle.orca_names.specs.declared.names.ObjName.{ObjName}
 use Rattle.orca_names.specs.declared.names.Thing.TheVariants.{Obj}
 use Rattle.letter_kinds.specs.Holdings.{Holdings, has_own}
 use Rattle.machine_rules.specs.Actors.{Actors, Seat, seat_at}
-use Rattle.block_table.specs.Blocks.{Blocks, count_free}
+use Rattle.block_table.specs.Blocks.{OneBlockEach, Blocks, count_free}
 use Rattle.row_laws.specs.Blocks.{AreBlocksOf, objects_left, rows_at}
 use Rattle.row_laws.specs.Laws.{FreeAreTheRest, LackIsCounted}
-use Rattle.block_table.proofs.Filling.{Once}
 
 -- ---- keys of a map are apart
 
@@ -108,7 +107,7 @@ found a q (Some n ∷ bs) e = by (n.owner == a) refl e (λ there. let z = found 
     by false own e later = later e
 
 -- they are apart
-pub serials_apart : (a : ℕ) (bs : Blocks) → Once bs → IsDistinct (eq_by_cmp nat_cmp) (serials_of a bs)
+pub serials_apart : (a : ℕ) (bs : Blocks) → OneBlockEach bs → IsDistinct (eq_by_cmp nat_cmp) (serials_of a bs)
 unfolding serials_of IsDistinct
 serials_apart a [] once = tt
 serials_apart a (None ∷ bs) once = serials_apart a bs (λ j k n e f. let s = once (suc j) (suc k) n e f in omega arith)

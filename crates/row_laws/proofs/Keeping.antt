@@ -14,10 +14,10 @@ use Rattle.machine_rules.specs.Actors.{Actors, Seat, seat, seat_at}
 use Rattle.machine_rules.specs.Left.{IsLeft}
 use Rattle.count_laws.proofs.gone.Staying.{stays}
 use Rattle.count_laws.specs.Gone.{HasName}
-use Rattle.block_table.specs.Blocks.{Blocks, count_free, fill, free_blocks}
+use Rattle.block_table.specs.Blocks.{OneBlockEach, Blocks, count_free, fill, free_blocks}
 use Rattle.row_laws.specs.Blocks.{AreBlocksOf, is_left, kept_of, made_by}
 use Rattle.row_laws.specs.Laws.{BlocksStay, NoBlockIsTakenEarly, StartsFree}
-use Rattle.block_table.proofs.Filling.{Among, Once, fill_all, fill_cases, fill_old, fill_once, fill_size}
+use Rattle.block_table.proofs.Filling.{Among, fill_all, fill_cases, fill_old, fill_once, fill_size}
 use Rattle.row_laws.proofs.Filling.{kept_cases, kept_here, kept_room}
 use Rattle.row_laws.proofs.Steps.{Moves, bare, moves}
 
@@ -38,7 +38,7 @@ module _ (s t : Actors) (ns : List ObjName) (blocks : Blocks) (moves : Moves s t
   abbrev stayed : Blocks
   stayed = map (kept_of t) blocks
 
-  stayed_once : Once stayed
+  stayed_once : OneBlockEach stayed
   stayed_once j k n e f = are.once j k n (kept_cases t blocks j n e).0 (kept_cases t blocks k n f).0
 
   came_new : (n : ObjName) → Among ns n → (k : ℕ) → slice_get stayed k ≡ Some (Some n) → ⊥

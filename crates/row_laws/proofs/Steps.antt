@@ -30,7 +30,8 @@ use Rattle.count_laws.proofs.events.Take.{next_held}
 use Rattle.count_laws.proofs.gone.Staying.{Stays, has-lower_all, has-raise_all, stays_more, stays_push, stays_self}
 use Rattle.count_laws.proofs.knowledge.Receiving.{has-receive}
 use Rattle.count_laws.proofs.knowledge.Sending.{has-mint_all, has-send}
-use Rattle.row_laws.specs.Blocks.{made_by, names_from, next_at}
+use Rattle.row_laws.specs.Blocks.{made_by, next_at}
+use Rattle.block_table.specs.Blocks.{names_from}
 use Rattle.block_table.proofs.Filling.{Among, Apart}
 use Rattle.row_laws.proofs.Filling.{from_apart}
 use Rattle.row_laws.proofs.Moving.{Comes, None_comes, Remains, asked_come, comes_none, comes_then, decs_come, more_comes, more_remains, push_comes, push_remains, reaped_come, same_cell, turn_comes, turn_made, turn_names, turn_new}

@@ -1,10 +1,10 @@
 -- Which block each object's row has.
-use Rattle.std.specs.Prelude.{ℕ, zero, suc, ◌+◌, ◌-◌, ◌<◌, ◌≤◌, ◌≡◌, Bool, false, if◌then◌else◌, List, [], ◌∷◌, length, map, slice_get, Option, Some, None}
+use Rattle.std.specs.Prelude.{ℕ, ◌+◌, ◌-◌, ◌<◌, ◌≤◌, ◌≡◌, Bool, false, if◌then◌else◌, List, [], ◌∷◌, length, map, slice_get, Option, Some, None}
 use Rattle.std.specs.FinMap as m
 use Rattle.std.specs.Option.{option_map_or}
 use Rattle.orca_names.specs.declared.names.ObjName.{ObjName}
 use Rattle.orca_names.specs.declared.names.Thing.TheVariants.{Obj}
-use Rattle.block_table.specs.Blocks.{Blocks, count_free, fill, free_blocks}
+use Rattle.block_table.specs.Blocks.{OneBlockEach, Blocks, count_free, fill, free_blocks, names_from}
 use Rattle.behaviour_code.specs.declared.code.Program.{Program}
 use Rattle.event_rule.specs.Runs.{Goes}
 use Rattle.event_rule.specs.declared.event.Event.{Event}
@@ -17,12 +17,6 @@ use Rattle.machine_rules.specs.Options.{Options}
 use Rattle.machine_rules.specs.State.{State, first_state}
 
 -- ---- the objects that an event makes
-
--- so many names of an owner, from this serial on
-unfoldable pub names_from : ℕ → ℕ → ℕ → List ObjName
-names_from owner serial zero = []
-names_from owner serial (suc count) =
-    record { owner = owner; serial = serial } ∷ names_from owner (suc serial) count
 
 -- the serial that the actor's next object gets
 abbrev pub next_at : Actors → ℕ → ℕ
@@ -77,8 +71,7 @@ pub record LacksBlocks (s : State) (e : Event) (blocks : Blocks) : Type 0 where
 pub record AreBlocksOf (actors : Actors) (blocks : Blocks) : Type 0 where
   pub left : (k : ℕ) (n : ObjName) → slice_get blocks k ≡ Some (Some n) → IsLeft actors (Obj n)
   pub has : (n : ObjName) → IsLeft actors (Obj n) → (k : ℕ) × (slice_get blocks k ≡ Some (Some n))
-  pub once : (j k : ℕ) (n : ObjName) → slice_get blocks j ≡ Some (Some n)
-      → slice_get blocks k ≡ Some (Some n) → j ≡ k
+  pub once : OneBlockEach blocks
 
 -- ---- books
 
