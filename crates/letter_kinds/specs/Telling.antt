@@ -1,5 +1,5 @@
 -- What is told of rows that lie in blocks.
-use Rattle.std.specs.Prelude.{ℕ, ◌⊎◌, ◌++◌, List, [], Some, Contains, get_or}
+use Rattle.std.specs.Prelude.{ℕ, suc, ◌⊎◌, ◌++◌, ◌∷◌, List, [], Some, Contains, get_or}
 use Rattle.orca_names.specs.declared.names.ObjName.{ObjName}
 use Rattle.orca_names.specs.declared.names.Thing.{Thing}
 use Rattle.orca_names.specs.declared.names.Thing.TheVariants.{Obj}
@@ -16,6 +16,15 @@ Telling = ObjName → Row → ℕ → Type 0
 -- the object with this row, which lies in the block, as a letter tells it
 abbrev pub in_block : ObjName → Row → ℕ → Thing × Lying
 in_block n row block = (Obj n, record { row = Some row; block = Some block })
+
+-- objects that this actor makes, from a serial on, with these rows, in these blocks, as many as there
+-- are of both
+unfoldable pub made_in : ℕ → ℕ → List Row → List ℕ → List (Thing × Lying)
+made_in owner serial (row ∷ rows) (block ∷ blocks) =
+    in_block (record { owner = owner; serial = serial }) row block
+    ∷ made_in owner (suc serial) rows blocks
+made_in owner serial (row ∷ rows) [] = []
+made_in owner serial [] blocks = []
 
 -- it is among these
 abbrev pub Told : List (Thing × Lying) → Telling

@@ -1,13 +1,15 @@
 -- A load of one thing.
-use Rattle.std.proofs.Common.{◌≡◌, Option, None, IsSome, List, [], ◌∷◌, subst, arith}
+use Rattle.std.proofs.Common.{◌≡◌, ℕ, zero, suc, ◌-◌, Bool, true, false, cond, Option, None, Some, IsSome, List, [], ◌∷◌, refl, sym, subst, ◌∙◌, arith}
+use Rattle.std.specs.Prelude.{◌==◌, ◌&&◌, nat_le, slice_get}
 use Rattle.std.proofs.lemmas.List.Elements.{All-cons, All-nil}
 use Rattle.std.proofs.lemmas.List.Sums.{sum_by-cons}
 use Rattle.orca_names.specs.declared.names.ObjName.{ObjName}
 use Rattle.orca_names.specs.declared.names.Thing.{Thing}
+use Rattle.orca_names.specs.declared.names.Thing.TheVariants.{Actor, Obj}
 use Rattle.orca_names.specs.declared.names.Value.{Value}
 use Rattle.row_store.specs.Told.{Lying, lies_as, lie_as, row_here, told_block, told_row}
 use Rattle.row_store.specs.declared.told.Told.{Told}
-use Rattle.letter_kinds.specs.Load.{AreKnown}
+use Rattle.letter_kinds.specs.Load.{AreKnown, HasGiven, HaveGiven, given_to}
 use Rattle.foreign_table.specs.Table.{length_aside, row_length}
 use Rattle.trace_send.specs.Room.{values_of}
 use Rattle.trace_send.proofs.Steps.{values_aside}
@@ -27,3 +29,18 @@ module _ (rows : ObjName → Option (List Value)) (x : Thing) (told : Told) wher
       let sum = sum_by-cons (λ (e : Thing × Lying). length_aside e.1.row e.1.block) (lies_as rows (x, told)) [] in
       let aside = values_aside rows x told in
       omega (arith, sum, aside)
+
+-- what gets the first of one row gets that
+first_given : (owner : ℕ) (row : List Value) (x : Thing) → IsSome (given_to owner 0 (row ∷ []) x) → given_to owner 0 (row ∷ []) x ≡ Some row
+first_given owner row (Actor a) some = cc
+first_given owner row (Obj n) some = by ((n.owner == owner) && nat_le 0 n.serial) (n.serial - 0) some
+  where
+    by : (t : Bool) (i : ℕ) → IsSome (cond t (slice_get (row ∷ []) i) None) → cond t (slice_get (row ∷ []) i) None ≡ Some row
+    by true zero some = refl
+    by true (suc i) some = cc
+    by false i some = cc
+
+-- a load of one thing with its row
+pub one_given : (owner : ℕ) (row : List Value) (e : Thing × Lying) → e.1.row ≡ Some row → HaveGiven owner 0 (row ∷ []) (e ∷ [])
+one_given owner row e is =
+    All-cons (HasGiven owner 0 (row ∷ [])) e [] (λ some. is ∙ sym (first_given owner row e.0 some)) (All-nil (HasGiven owner 0 (row ∷ [])))

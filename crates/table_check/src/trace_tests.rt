@@ -1,6 +1,7 @@
 // What a letter's sender lacks, by what it holds, and what its taker and its sender count.
 
 ghost use Rattle.std.specs.Prelude.{◌≡◌, ◌∷◌, [], IfOk, IsSome};
+ghost use Rattle.letter_kinds.specs.Load.{HaveGiven};
 ghost use Rattle.row_store.specs.Memory.{remembered};
 ghost use Rattle.row_store.specs.Told.{lies_as, told_block, told_row};
 
@@ -10,7 +11,7 @@ use crate::cases::{
 use foreign_table::ForeignTable;
 use letter_kinds::Load;
 use object_heap::ObjectHeap;
-use orca_names::{ActorName, NoMemory, Thing};
+use orca_names::{ActorName, NoMemory, Row, Thing, Value};
 use plain_list::Listed;
 use ref_weights::OwnCount;
 use row_store::{Remembered, Told};
@@ -205,4 +206,26 @@ fn letters_are_counted(rt: HostRuntime) {
     drop(foreign);
     drop(heap);
     assert!(rt; holds);
+}
+
+/// Whether the row that is loaded at hand lies in this block once it was put there.
+fn comes_to_lie_in(load: &mut Load, owner: ActorName, row: Row, block: u32) -> bool
+    requires { HaveGiven owner 0 (row ∷ []) load.old }
+{
+    load.lie_in(owner, 0, &[row], &[block]);
+    let (items, _) = load.parts();
+    items.len() == 1 && items[0].1 == Told::In(block)
+}
+
+/// Whether so it is with a load of one object.
+fn lies_where_it_was_put(alloc: Global) -> Result<bool, NoMemory> {
+    let row = Row::of(&[Value::Num(9)]);
+    let thing = thing_of(Named::Object(4, 0));
+    let mut load = load_with(alloc, &thing, &Told::Here(row), Remembered::new())?;
+    Ok(comes_to_lie_in(&mut load, ActorName(4), row, 5))
+}
+
+#[test]
+fn a_loaded_row_is_put_into_its_block(rt: HostRuntime) {
+    assert!(rt; matches!(lies_where_it_was_put(rt.alloc()), Ok(true)));
 }

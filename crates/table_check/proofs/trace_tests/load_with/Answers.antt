@@ -1,4 +1,4 @@
-use Rattle.std.proofs.Common.{◌≡◌, ◌++◌, ◌∷◌, [], sym, ap, subst, ◌∙◌}
+use Rattle.std.proofs.Common.{◌++◌, ◌∷◌, [], sym, ap, subst, ◌∙◌}
 use Rattle.row_store.specs.Memory.{remembered}
 use Rattle.row_store.specs.Told.{lie_as}
 use Rattle.letter_kinds.specs.Load.{AreKnown}
