@@ -1,2 +1,3 @@
 pub mod Here
+mod FirstObject
 mod Loads

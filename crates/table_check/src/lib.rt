@@ -24,6 +24,8 @@ mod report_tests;
 #[cfg(test)]
 mod root_tests;
 #[cfg(test)]
+mod row_block_tests;
+#[cfg(test)]
 mod row_tests;
 #[cfg(test)]
 mod set_tests;

@@ -1,0 +1,3 @@
+mod Placed
+mod GivenBack
+mod Owning
