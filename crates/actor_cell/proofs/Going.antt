@@ -1,5 +1,7 @@
 -- What a go leads to, step by step.
-use Rattle.std.proofs.Common.{◌≡◌, ℕ, suc, ◌+◌, ◌-◌, Option, None, Some, List, [], ◌∷◌, length, map, ap, ◌∙◌, arith}
+use Rattle.std.proofs.Common.{◌≡◌, ℕ, zero, suc, ◌+◌, ◌-◌, Option, Some, List, [], ◌∷◌, drop, length, refl, ap, ◌∙◌, arith}
+use Rattle.std.specs.Prelude.{slice_get}
+use Rattle.std.proofs.lemmas.List.{drop-drop}
 use Rattle.turn_rules.specs.declared.act.Frame.{Frame}
 use Rattle.turn_rules.specs.Segment.{Turn}
 use Rattle.letter_kinds.specs.Letters.{Letter}
@@ -9,12 +11,19 @@ use Rattle.object_heap.specs.Heap.{Heap, add_blocks, with_new}
 use Rattle.machine_rules.specs.Cell.{Cell}
 use Rattle.actor_cell.specs.Moves.{Post}
 use Rattle.actor_cell.specs.Goes.{cell_by, cell_kept, frame_left, load_in}
+use Rattle.actor_cell.specs.Tells.{blocks_for}
 
 -- ---- rows that were made, one by one
 
--- none of these lies in a block
-abbrev pub nowhere : List Row → List (Option ℕ)
-nowhere made = map (λ _. None) made
+head_behind : (i : ℕ) (blocks : List ℕ) → slice_get (drop i blocks) 0 ≡ slice_get blocks i
+head_behind zero blocks = refl
+head_behind (suc i) [] = refl
+head_behind (suc i) (b ∷ blocks) = head_behind i blocks
+
+-- one row more has the next block, where there is one
+pub next_block : (row : Row) (made : List Row) (blocks : List ℕ) (i : ℕ)
+    → blocks_for (row ∷ made) (drop i blocks) ≡ slice_get blocks i ∷ blocks_for made (drop (i + 1) blocks)
+next_block row made blocks i = λ j. head_behind i blocks j ∷ blocks_for made (drop-drop 1 i blocks j)
 
 pub with_new-nil : (h : Heap) → with_new [] [] h ≡ h
 unfolding add_rows add_blocks

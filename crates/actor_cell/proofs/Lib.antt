@@ -4,6 +4,7 @@ pub mod Going
 pub mod Here
 pub mod Learnt
 pub mod Loading
+pub mod Lying
 pub mod Marked
 pub mod Needing
 pub mod Parts

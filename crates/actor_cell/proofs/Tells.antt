@@ -1,5 +1,5 @@
 -- What cells tell of rows in blocks, before and after.
-use Rattle.std.proofs.Common.{◌≡◌, ◌⊎◌, inl, inr, ⊎_elim, Ordering, Equal, ℕ, zero, suc, ◌+◌, ◌-◌, ◌==◌, Bool, true, false, cond, List, [], ◌∷◌, ◌++◌, drop, Option, Some, None, not, refl, sym, ap, subst, ◌∙◌, arith}
+use Rattle.std.proofs.Common.{◌≡◌, ◌⊎◌, inl, inr, ⊎_elim, Ordering, Equal, ℕ, zero, suc, ◌+◌, ◌-◌, ◌==◌, Bool, true, false, cond, List, [], ◌∷◌, ◌++◌, drop, Option, Some, None, not, refl, sym, ap, subst, ◌∙◌, arith, eqb-true}
 use Rattle.std.specs.Prelude.{Contains, map, option_and_then, option_map}
 use Rattle.std.specs.Cmp.{IsTotalOrder}
 use Rattle.std.specs.FinMap as m
@@ -25,9 +25,9 @@ use Rattle.foreign_table.specs.Table.{Blocks, Table, block_at, entered}
 use Rattle.row_table.specs.Table.{KnownRows, learnt}
 use Rattle.known_rows.specs.Holdings.{holdings_of}
 use Rattle.trace_send.specs.Blocks.{block_received, blocks_received}
-use Rattle.letter_kinds.specs.Telling.{TellsOnly, in_block}
-use Rattle.actor_cell.specs.Tells.{BroughtTells, HeldTells, OwnTells}
-use Rattle.actor_cell.proofs.Going.{nowhere}
+use Rattle.letter_kinds.specs.Telling.{TellsOnly, in_block, made_in}
+use Rattle.letter_kinds.proofs.Lying.{none_made}
+use Rattle.actor_cell.specs.Tells.{BroughtTells, HeldTells, OwnTells, blocks_for}
 
 -- ---- a map of rows and the map of their blocks
 
@@ -79,7 +79,7 @@ module _ {K V : Type 0} {R : K → K → Ordering} (total : IsTotalOrder R) (exa
 abbrev pub OwnTellsOnly : Heap → Heap → Type 0
 OwnTellsOnly old new = (n : ObjName) (row : Row) (block : ℕ) → OwnTells new n row block → OwnTells old n row block
 
-abbrev row_in : Option (Row × ℕ) → Option Row
+abbrev pub row_in : Option (Row × ℕ) → Option Row
 row_in o = option_map (λ e. e.0) o
 
 abbrev SerialTells : OwnRows → heaps.Blocks → ℕ → Row → ℕ → Type 0
@@ -103,19 +103,58 @@ pub own_freed : (gone : List ObjName) (h new : Heap) → new ≡ freed gone h �
 own_freed gone h new is =
     subst (OwnTellsOnly h) (sym is) (own_by h (freed gone h) refl (left_tells nat_cmp_total nat_cmp-IsAntisymmetric row_in refl h.rows h.blocks (stays gone)))
 
-made_tells : (made : List Row) (next : ℕ) (rows : OwnRows) (blocks : heaps.Blocks) (q : ℕ) (row : Row) (block : ℕ)
-    → SerialTells (add_rows next made rows) (add_blocks next (nowhere made) blocks) q row block → SerialTells rows blocks q row block
-unfolding add_rows add_blocks
-made_tells [] next rows blocks q row block told = told
-made_tells (r ∷ made) next rows blocks q row block told = ⊎_elim
-    (λ before. before)
-    (λ here. let none = here.1.1 in cc)
-    (put_tells nat_cmp_total nat_cmp-IsAntisymmetric row_in rows blocks next (r, 0) None q row block
-    (made_tells made (suc next) (m.insert rows next (r, 0)) (m.insert blocks next None) q row block told))
+-- in what was made the rest is
+behind_made : (owner next : ℕ) (r : Row) (made : List Row) (b : ℕ) (given : List ℕ) (x : Thing × Lying)
+    → Contains (made_in owner (suc next) made given) x → Contains (made_in owner next (r ∷ made) (b ∷ given)) x
+unfolding made_in
+behind_made owner next r made b given x later =
+    Contains-append_right (in_block (record { owner = owner; serial = next }) r b ∷ []) (made_in owner (suc next) made given) x later
 
--- rows at hand are added
-pub own_made : (made : List Row) (h new : Heap) → new ≡ with_new made (nowhere made) h → OwnTellsOnly h new
-own_made made h new is = subst (OwnTellsOnly h) (sym is) (own_by h (with_new made (nowhere made) h) refl (made_tells made h.next h.rows h.blocks))
+-- what was made first
+first_made : (owner next : ℕ) (r : Row) (made : List Row) (b : ℕ) (given : List ℕ)
+    → Contains (made_in owner next (r ∷ made) (b ∷ given)) (in_block (record { owner = owner; serial = next }) r b)
+unfolding made_in
+first_made owner next r made b given = (0, omega arith, refl)
+
+made_tells : (owner : ℕ) (made : List Row) (given : List ℕ) (next : ℕ) (rows : OwnRows) (blocks : heaps.Blocks) (q : ℕ) (row : Row) (block : ℕ)
+    → SerialTells (add_rows next made rows) (add_blocks next (blocks_for made given) blocks) q row block
+    → SerialTells rows blocks q row block ⊎ Contains (made_in owner next made given) (in_block (record { owner = owner; serial = q }) row block)
+unfolding add_rows add_blocks
+made_tells owner [] given next rows blocks q row block told = inl told
+made_tells owner (r ∷ made) [] next rows blocks q row block told = ⊎_elim
+    (λ before. ⊎_elim inl (λ here. let none = here.1.1 in cc)
+    (put_tells nat_cmp_total nat_cmp-IsAntisymmetric row_in rows blocks next (r, 0) None q row block before))
+    (λ none. absurd (none_made owner (suc next) made (in_block (record { owner = owner; serial = q }) row block) none))
+    (made_tells owner made [] (suc next) (m.insert rows next (r, 0)) (m.insert blocks next None) q row block told)
+made_tells owner (r ∷ made) (b ∷ given) next rows blocks q row block told = ⊎_elim
+    (λ before. ⊎_elim inl (λ here. inr (its here.0 here.1.0 here.1.1))
+    (put_tells nat_cmp_total nat_cmp-IsAntisymmetric row_in rows blocks next (r, 0) (Some b) q row block before))
+    (λ later. inr (behind_made owner next r made b given (in_block (record { owner = owner; serial = q }) row block) later))
+    (made_tells owner made given (suc next) (m.insert rows next (r, 0)) (m.insert blocks next (Some b)) q row block told)
+  where
+    its : next ≡ q → Some r ≡ Some row → Some b ≡ Some block
+        → Contains (made_in owner next (r ∷ made) (b ∷ given)) (in_block (record { owner = owner; serial = q }) row block)
+    its at its_row its_block =
+        let same_row : r ≡ row = cc in
+        let same_block : b ≡ block = cc in
+        subst (Contains (made_in owner next (r ∷ made) (b ∷ given))) (λ j. in_block (record { owner = owner; serial = at j }) (same_row j) (same_block j))
+        (first_made owner next r made b given)
+
+-- rows are added, some of them in blocks
+pub own_made : (made : List Row) (given : List ℕ) (h new : Heap) → new ≡ with_new made (blocks_for made given) h
+    → TellsOnly (OwnTells h) (made_in h.owner h.next made given) (OwnTells new)
+own_made made given h new is = subst (λ g. TellsOnly (OwnTells h) (made_in h.owner h.next made given) (OwnTells g)) (sym is)
+    (λ n row block told. by n row block (n.owner == h.owner) refl told.0 told.1)
+  where
+    by : (n : ObjName) (row : Row) (block : ℕ) (t : Bool) → (n.owner == h.owner) ≡ t
+        → cond t (row_in (m.get (add_rows h.next made h.rows) n.serial)) None ≡ Some row
+        → cond t (heaps.block_at (add_blocks h.next (blocks_for made given) h.blocks) n.serial) None ≡ Some block
+        → ((cond t (row_in (m.get h.rows n.serial)) None ≡ Some row) × (cond t (heaps.block_at h.blocks n.serial) None ≡ Some block))
+        ⊎ Contains (made_in h.owner h.next made given) (in_block n row block)
+    by n row block true is r l = ⊎_elim inl
+        (λ its. inr (subst (λ a. Contains (made_in h.owner h.next made given) (in_block (record { owner = a; serial = n.serial }) row block)) (sym (eqb-true n.owner h.owner is)) its))
+        (made_tells h.owner made given h.next h.rows h.blocks n.serial row block (r, l))
+    by n row block false is r l = cc
 
 -- ---- counts alone change
 
@@ -311,6 +350,12 @@ module _ (heap heap' : Heap) (foreign foreign' : Table) (known known' : KnownRow
   tells_only more own held brought n row block (inl told) = inl (inl (own n row block told))
   tells_only more own held brought n row block (inr (inl told)) = ⊎_elim (λ before. inl (inr (inl before))) inr (held n row block told)
   tells_only more own held brought n row block (inr (inr told)) = ⊎_elim (λ before. inl (inr (inr before))) inr (brought n row block told)
+
+  -- own objects alone tell more
+  pub tells_own : (more : List (Thing × Lying)) → TellsOnly (OwnTells heap) more (OwnTells heap') → foreign' ≡ foreign → known' ≡ known → PartsTellOnly more
+  tells_own more own held brought n row block (inl told) = ⊎_elim (λ before. inl (inl before)) inr (own n row block told)
+  tells_own more own held brought n row block (inr told) =
+      inl (inr (subst (λ t. HeldTells t n row block ⊎ BroughtTells known n row block) held (subst (λ t. HeldTells foreign' n row block ⊎ BroughtTells t n row block) brought told)))
 
   -- what a letter loads is held then, and the rows that it brings are known
   pub tells_taken : (load rows : List (Thing × Lying)) → OwnTellsOnly heap heap' → TellsOnly (HeldTells foreign) load (HeldTells foreign') → TellsOnly (BroughtTells known) rows (BroughtTells known')

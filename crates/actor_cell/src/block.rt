@@ -4,7 +4,7 @@ ghost use Rattle.std.specs.Prelude.{◌≡◌, [], true, IfOk};
 ghost use Rattle.actor_cell.specs.Cells.{IsCellOf, as_cell};
 ghost use Rattle.actor_cell.specs.Outs.{report_of};
 ghost use Rattle.letter_kinds.specs.Telling.{TellsOnly};
-ghost use Rattle.actor_cell.specs.Tells.{Tells};
+ghost use Rattle.actor_cell.specs.Tells.{AllIn, Tells};
 
 use crate::cell::Cell;
 use block_report::report;
@@ -28,6 +28,7 @@ impl Cell {
         ensures cell { IsCellOf self.old.heap.owner
             (record (as_cell self.old) { reported = true }) self.new }
         ensures told { TellsOnly (Tells self.old) [] (Tells self.new) }
+        ensures lie { AllIn self.old.heap → AllIn self.new.heap }
     {
         self.reported = true;
     }

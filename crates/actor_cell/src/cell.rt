@@ -42,13 +42,14 @@ pub struct Cell {
 impl Cell {
     ghost use Rattle.actor_cell.specs.Cells.{IsCellOf, as_cell, settled};
     ghost use Rattle.letter_kinds.specs.Telling.{TellsNothing, TellsOnly};
-    ghost use Rattle.actor_cell.specs.Tells.{Tells};
+    ghost use Rattle.actor_cell.specs.Tells.{AllIn, Tells};
 
     /// The cell of the first actor, which nobody holds. It takes no memory.
     #[inline(always)]
     pub fn first(alloc: Global, code: &Checked) -> Cell
         ensures cell { IsCellOf 0 (first_cell code.now) result }
         ensures told { TellsNothing (Tells result) }
+        ensures lie { AllIn result.heap }
     {
         Cell::fresh(alloc, code, ActorName(0), 0, 0)
     }
@@ -60,6 +61,7 @@ impl Cell {
         requires { count < count_limit }
         ensures cell { IsCellOf me (clean_cell code.now kind count) result }
         ensures told { TellsNothing (Tells result) }
+        ensures lie { AllIn result.heap }
     {
         let mut own = OwnCount::new();
         own.raise(count);
@@ -91,6 +93,7 @@ impl Cell {
         ensures cell { as_cell self.new ≡ settled weight register name (as_cell self.old) }
         ensures owner { self.new.heap.owner ≡ self.old.heap.owner }
         ensures told { TellsOnly (Tells self.old) [] (Tells self.new) }
+        ensures lie { AllIn self.old.heap → AllIn self.new.heap }
     {
         self.frame.put(register, Value::Actor(name));
         self.foreign.gain(

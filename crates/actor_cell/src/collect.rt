@@ -7,7 +7,7 @@ ghost use Rattle.actor_cell.specs.Cells.{as_cell};
 ghost use Rattle.row_store.specs.Words.{SameWords};
 ghost use Rattle.actor_cell.specs.Sweeps.{IsSweep, KnowsOthersOnly, sweep_of, swept};
 ghost use Rattle.letter_kinds.specs.Telling.{HoldsTold, TellsOnly};
-ghost use Rattle.actor_cell.specs.Tells.{Tells};
+ghost use Rattle.actor_cell.specs.Tells.{AllIn, Tells};
 
 use crate::cell::Cell;
 use crate::sweeping::Sweep;
@@ -73,6 +73,7 @@ impl Cell {
             → as_cell self.new ≡ swept trace self.old.heap.owner (as_cell self.old) }
         ensures owner { self.new.heap.owner ≡ self.old.heap.owner }
         ensures told { TellsOnly (Tells self.old) [] (Tells self.new) }
+        ensures lie { AllIn self.old.heap → AllIn self.new.heap }
     {
         apply(&found.plan, &mut self.heap, &mut self.foreign);
         self.known.forget(found.unused.as_slice());

@@ -6,7 +6,7 @@ ghost use Rattle.machine_rules.specs.Take.{cell_after, note_of};
 ghost use Rattle.actor_cell.specs.Cells.{IsCellOf, IsSame, as_cell};
 ghost use Rattle.actor_cell.specs.Takes.{CanTake, HasRoomFor};
 ghost use Rattle.letter_kinds.specs.Telling.{TellsOnly, all_brought, brought_in};
-ghost use Rattle.actor_cell.specs.Tells.{Tells as CellTells};
+ghost use Rattle.actor_cell.specs.Tells.{AllIn, Tells as CellTells};
 
 use crate::cell::Cell;
 use crate::learning::learn_all;
@@ -25,6 +25,7 @@ impl Cell {
         ensures cell { IsCellOf self.old.heap.owner
             (record (as_cell self.old) { dirty = true; reported = false }) self.new }
         ensures told { TellsOnly (CellTells self.old) [] (CellTells self.new) }
+        ensures lie { AllIn self.old.heap → AllIn self.new.heap }
     {
         self.dirty = true;
         self.reported = false;
@@ -54,6 +55,7 @@ impl Cell {
         ensures same { IsSame self.new self.old }
         ensures room { OnOk result (HasRoomFor (as_letter letter.now) (brought_in letter.now) self.new) }
         ensures told { TellsOnly (CellTells self.old) [] (CellTells self.new) }
+        ensures lie { AllIn self.old.heap → AllIn self.new.heap }
     {
         match letter {
             Letter::App {
@@ -80,6 +82,7 @@ impl Cell {
             IsCellOf me (cell_after code.now me (as_letter letter.now) (as_cell self.old)) self.new }
         ensures told { let brought = all_brought (brought_in letter.now) in
             TellsOnly (CellTells self.old) brought (CellTells self.new) }
+        ensures lie { AllIn self.old.heap → AllIn self.new.heap }
     {
         let me = self.heap.owner();
         match letter {

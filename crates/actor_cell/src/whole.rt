@@ -155,7 +155,7 @@ impl Cell {
         let room = letter_room(alloc, 1)?;
         found.reserve_letter(alloc)?;
         self.reserve_go(&turn, &found)?;
-        self.apply_go(&turn, &found, &mut SpareFrame::new(alloc));
+        self.apply_go(&turn, &found, &[], &mut SpareFrame::new(alloc));
         Ok(found.give_out(alloc, room))
     }
 

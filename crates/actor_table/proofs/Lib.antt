@@ -1,4 +1,5 @@
 pub mod Changing
 pub mod Indexing
+pub mod Lying
 pub mod Naming
 pub mod Telling

@@ -94,10 +94,10 @@ pub fresh_untold : (c : Cell) (mail : Mail) → TellsNothing (Tells c) → mail.
 fresh_untold c mail nothing none n row block (inl told) = nothing n row block told
 fresh_untold c mail nothing none n row block (inr told) = gone_untold n row block (inr (subst (λ l. ToldByOne l n row block) none told))
 
--- a cell that tells no more, with the letters that wait
-pub with_told : (c d : Cell) (letters : List Brought) → TellsOnly (Tells c) [] (Tells d) → TellsOnly (TellsWith c letters) [] (TellsWith d letters)
-with_told c d letters only n row block (inl told) = ⊎_elim (λ before. inl (inl before)) inr (only n row block told)
-with_told c d letters only n row block (inr told) = inl (inr told)
+-- what a cell tells more it tells with the letters that wait
+pub with_told : (c d : Cell) (letters : List Brought) (more : List (Thing × Lying)) → TellsOnly (Tells c) more (Tells d) → TellsOnly (TellsWith c letters) more (TellsWith d letters)
+with_told c d letters more only n row block (inl told) = ⊎_elim (λ before. inl (inl before)) inr (only n row block told)
+with_told c d letters more only n row block (inr told) = inl (inr told)
 
 -- with those behind the first, which it took
 pub with_taken : (c d : Cell) (letters : List Brought) (b : Brought) → slice_get letters 0 ≡ Some b → TellsOnly (Tells c) (all_brought b) (Tells d)

@@ -1,8 +1,8 @@
 -- What actors and the letters that wait for them tell of rows in blocks.
-use Rattle.std.specs.Prelude.{ℕ, ◌⊎◌, List}
+use Rattle.std.specs.Prelude.{ℕ, ◌⊎◌, ⊤, List}
 use Rattle.letter_kinds.specs.Telling.{Brought, Telling, ToldByOne}
 use Rattle.actor_cell.specs.declared.cell.Cell.{Cell}
-use Rattle.actor_cell.specs.Tells.{Tells}
+use Rattle.actor_cell.specs.Tells.{AllIn, Tells}
 use Rattle.actor_table.specs.declared.slot.Slot.{Slot}
 use Rattle.actor_table.specs.declared.slot.Place.{Place}
 use Rattle.actor_table.specs.declared.slot.Place.TheVariants.{Home, Away, Gone}
@@ -25,3 +25,13 @@ SlotTells x n row block = PlaceTells x.place n row block ⊎ ToldByOne x.mail.br
 -- one of the actors does
 abbrev pub TableTells : List Slot → Telling
 TableTells slots n row block = (a : ℕ) × SlotTells (slot_at slots a) n row block
+
+-- each own row of the cell lies in a block; of one that is away, as it was when it went
+abbrev pub PlaceLies : Place → Type 0
+PlaceLies (Home c) = AllIn c.heap
+PlaceLies (Away c) = AllIn c.value.heap
+PlaceLies Gone = ⊤
+
+-- so it is of each actor
+abbrev pub TableLies : List Slot → Type 0
+TableLies slots = (a : ℕ) → PlaceLies (slot_at slots a).place

@@ -1,11 +1,15 @@
 // What becomes of one actor by its part of an event.
 
-ghost use Rattle.std.specs.Prelude.{◌≡◌, ◌≤◌, [], option_map, OnOk};
+ghost use Rattle.std.specs.Prelude.{◌≡◌, ◌≤◌, List, [], option_map, OnOk, ⊤};
+ghost use Rattle.orca_names.specs.declared.names.Thing.{Thing as thing};
+ghost use Rattle.row_store.specs.Told.{Lying};
 ghost use Rattle.letter_kinds.specs.Letters.{as_letter};
-ghost use Rattle.letter_kinds.specs.Telling.{TellsOnly};
+ghost use Rattle.letter_kinds.specs.Telling.{TellsOnly, made_in};
 ghost use Rattle.machine_rules.specs.Actors.{seat};
 ghost use Rattle.actor_cell.specs.Cells.{as_cell};
-ghost use Rattle.actor_cell.specs.Tells.{Tells};
+ghost use Rattle.actor_cell.specs.Moves.{act_in};
+ghost use Rattle.actor_cell.specs.Tells.{AllIn, PutsAll, Tells};
+ghost use Rattle.actor_cell.specs.declared.cell.Cell.{Cell as a_cell};
 ghost use Rattle.actor_table.specs.Changes.{AllowsChange, Change, HasRoomIn, is_go, letter_taken, seat_after};
 ghost use Rattle.actor_table.specs.Telling.{TellsWith};
 
@@ -22,6 +26,12 @@ use turn_step::Turn;
 pub trait Changes {
     /// What it is to the rules.
     ghost as_change: { Self → Change };
+
+    /// The rows that it puts into blocks, of objects that the actor with this cell makes.
+    ghost makes_in: { Self → a_cell → List (thing × Lying) };
+
+    /// That each row that it makes is put into a block.
+    ghost puts_all: { Self → Type 0 };
 
     /// Whether it is a step of a turn.
     fn is_go(&self) -> bool
@@ -41,6 +51,7 @@ pub trait Changes {
         ensures cell { as_cell cell.new ≡ as_cell cell.old }
         ensures owner { cell.new.heap.owner ≡ cell.old.heap.owner }
         ensures told { TellsOnly (Tells cell.old) [] (Tells cell.new) }
+        ensures lie { AllIn cell.old.heap → AllIn cell.new.heap }
         ensures ok { OnOk result (HasRoomIn (as_change self.now) mail.now cell.new) };
 
     /// It is done to the cell and the letters of the actor, and gives the letter that it takes. It
@@ -56,8 +67,9 @@ pub trait Changes {
         ensures seat { let me = cell.old.heap.owner in seat (as_cell cell.new) mail.new.letters
             ≡ seat_after code.now me (as_change self.now) (seat (as_cell cell.old) mail.old.letters) }
         ensures owner { cell.new.heap.owner ≡ cell.old.heap.owner }
-        ensures told { TellsOnly (TellsWith cell.old mail.old.brought) []
+        ensures told { TellsOnly (TellsWith cell.old mail.old.brought) (makes_in self.now cell.old)
             (TellsWith cell.new mail.new.brought) }
+        ensures lie { puts_all self.now → AllIn cell.old.heap → AllIn cell.new.heap }
         ensures room { mail.old.spare ≤ mail.new.spare }
         ensures taken { option_map as_letter result ≡ letter_taken (as_change self.now) mail.old.letters };
 }
@@ -70,6 +82,10 @@ impl Changes for Take {
     ghost use Rattle.actor_table.specs.Changes.{Take as take};
 
     ghost as_change = { λ s. take };
+
+    ghost makes_in = { λ s c. [] };
+
+    ghost puts_all = { λ s. ⊤ };
 
     #[inline(always)]
     fn is_go(&self) -> bool {
@@ -105,12 +121,13 @@ impl Changes for Take {
     }
 }
 
-/// What was found of an actor's turn is done. An actor that it makes has this name, and is held with the
-/// weight.
+/// What was found of an actor's turn is done. The rows that it made lie in these blocks then, those for
+/// which there is none at hand. An actor that it makes has this name, and is held with the weight.
 #[derive(Clone, Copy)]
 pub struct Go<'a> {
     pub turn: &'a Turn,
     pub found: &'a Turned,
+    pub blocks: &'a [u32],
     pub name: ActorName,
     pub weight: u32,
 }
@@ -119,6 +136,10 @@ impl Changes for Go<'_> {
     ghost use Rattle.actor_table.specs.Changes.{Go as go};
 
     ghost as_change = { λ s. go s.turn.now s.found.now s.name s.weight };
+
+    ghost makes_in = { λ s c. made_in c.heap.owner c.heap.next s.turn.now.made s.blocks.now };
+
+    ghost puts_all = { λ s. PutsAll s.turn.now.made (act_in s.found.now) s.blocks.now };
 
     #[inline(always)]
     fn is_go(&self) -> bool {
@@ -143,7 +164,7 @@ impl Changes for Go<'_> {
         _mail: &mut MailRow,
         spare: &mut SpareFrame,
     ) -> Option<Letter> {
-        cell.apply_go(self.turn, self.found, spare);
+        cell.apply_go(self.turn, self.found, self.blocks, spare);
         if let Doing::New { kind: _, register } = self.found.doing {
             cell.settle_new(register, self.name, self.weight);
         }
@@ -162,6 +183,10 @@ impl Changes for Collect<'_> {
     ghost use Rattle.actor_table.specs.Changes.{Collect as collect};
 
     ghost as_change = { λ s. collect s.found.now s.trace };
+
+    ghost makes_in = { λ s c. [] };
+
+    ghost puts_all = { λ s. ⊤ };
 
     #[inline(always)]
     fn is_go(&self) -> bool {
@@ -199,6 +224,10 @@ impl Changes for Block {
     ghost use Rattle.actor_table.specs.Changes.{Block as block};
 
     ghost as_change = { λ s. block };
+
+    ghost makes_in = { λ s c. [] };
+
+    ghost puts_all = { λ s. ⊤ };
 
     #[inline(always)]
     fn is_go(&self) -> bool {

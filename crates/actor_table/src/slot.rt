@@ -7,8 +7,9 @@ ghost use Rattle.letter_kinds.specs.Telling.{TellsOnly, all_brought, brought_in}
 ghost use Rattle.machine_rules.specs.Actors.{with_letter_more};
 ghost use Rattle.machine_rules.specs.Guards.{may_block, may_do, may_go};
 ghost use Rattle.actor_cell.specs.Cells.{as_cell};
+ghost use Rattle.actor_cell.specs.declared.cell.Cell.{Cell as a_cell};
 ghost use Rattle.actor_table.specs.Changes.{CanChange, HasRoomToChange, KeepsPlace, letter_taken, note_taken, seat_after};
-ghost use Rattle.actor_table.specs.Telling.{SlotTells};
+ghost use Rattle.actor_table.specs.Telling.{PlaceLies, SlotTells};
 ghost use Rattle.actor_table.specs.declared.slot.Place.TheVariants.{Gone, Home};
 ghost use Rattle.actor_table.specs.Slots.{can_act, can_settle, event_in, event_of, home_of, is_away, mail_of, may_at, may_event, owner_in, seat_of, IsOwnedBy};
 
@@ -170,6 +171,7 @@ pub(crate) fn reserve<C: Changes>(
 ) -> Result<(), NoMemory>
     ensures seat { seat_of slot.new ≡ seat_of slot.old }
     ensures told { TellsOnly (SlotTells slot.old) [] (SlotTells slot.new) }
+    ensures lie { PlaceLies slot.old.place → PlaceLies slot.new.place }
     ensures kept { KeepsPlace slot.old slot.new }
     ensures ok { OnOk result (HasRoomToChange (C.as_change change.now) slot.new) }
 {
@@ -212,6 +214,7 @@ pub(crate) fn lift(slot: &mut Slot) -> Option<Cell>
     ensures owner { owner_in slot.new.place ≡ owner_in slot.old.place }
     ensures mail { slot.new.mail ≡ slot.old.mail }
     ensures told { TellsOnly (SlotTells slot.old) [] (SlotTells slot.new) }
+    ensures lie { PlaceLies slot.old.place → PlaceLies slot.new.place }
 {
     match mem::replace(&mut slot.place, Place::Gone) {
         Place::Home(cell) => {
@@ -261,7 +264,9 @@ pub(crate) fn change<C: Changes>(
     requires { IsSomeAnd (home_of slot.old) (λ c. CanChange c.heap.owner (C.as_change change.now) slot.old) }
     ensures seat { (a : ℕ) → IsOwnedBy a slot.old.place
         → seat_of slot.new ≡ seat_after code.now a (C.as_change change.now) (seat_of slot.old) }
-    ensures told { TellsOnly (SlotTells slot.old) [] (SlotTells slot.new) }
+    ensures told { (c : a_cell) → slot.old.place ≡ Home c
+        → TellsOnly (SlotTells slot.old) (C.makes_in change.now c) (SlotTells slot.new) }
+    ensures lie { C.puts_all change.now → PlaceLies slot.old.place → PlaceLies slot.new.place }
     ensures kept { KeepsPlace slot.old slot.new }
     ensures taken { option_map as_letter result ≡ letter_taken (C.as_change change.now) slot.old.mail.letters }
 {

@@ -6,14 +6,15 @@ ghost use Rattle.letter_kinds.specs.Letters.{as_letter};
 ghost use Rattle.letter_kinds.specs.Telling.{TellsOnly, all_brought, brought_in};
 ghost use Rattle.machine_rules.specs.Actors.{push_letter, seat_at};
 ghost use Rattle.actor_cell.specs.Cells.{as_cell};
-ghost use Rattle.actor_cell.specs.Tells.{Tells};
+ghost use Rattle.actor_cell.specs.Tells.{AllIn, Tells};
+ghost use Rattle.actor_cell.specs.declared.cell.Cell.{Cell as a_cell};
 ghost use Rattle.orca_names.specs.declared.limits.TheConstants.{ACTORS_LIMIT};
 ghost use Rattle.actor_table.specs.declared.slot.Place.TheVariants.{Home};
 ghost use Rattle.actor_table.specs.Changes.{CanChange, HasCell, HasRoomToChange, KeepsRest, KeepsSpace, OnlyTableRoom, changed_at, letter_taken, note_taken, seat_after};
 ghost use Rattle.actor_table.specs.Index.{IsIndex};
 ghost use Rattle.actor_table.specs.Rounds.{IsNextThat, has_event};
 ghost use Rattle.actor_table.specs.Slots.{actors_of, away_of, can_act, can_settle, event_of, gone, home_of, is_away, mail_of, may_event, slot_at};
-ghost use Rattle.actor_table.specs.Telling.{PlaceTells, TableTells};
+ghost use Rattle.actor_table.specs.Telling.{PlaceTells, TableLies, TableTells};
 
 use crate::bits::{put_bits, put_bits_after, reserve_bits};
 use crate::change::Changes;
@@ -210,6 +211,7 @@ impl ActorTable {
     pub fn reserve<C: Changes>(&mut self, a: ActorName, change: &C) -> Result<(), NoMemory>
         ensures actors { actors_of self.new.slots ≡ actors_of self.old.slots }
         ensures told { TellsOnly (TableTells self.old.slots) [] (TableTells self.new.slots) }
+        ensures lie { TableLies self.old.slots → TableLies self.new.slots }
         ensures rest { KeepsRest self.old self.new }
         ensures ok { OnOk result (HasRoomToChange (C.as_change change.now) (slot_at self.new.slots a)) }
     {
@@ -226,6 +228,7 @@ impl ActorTable {
     #[tactic(auto, using(crate::proofs::Changing::one_place))]
     pub fn reserve_letters(&mut self, to: ActorName, n: usize) -> Result<(), NoMemory>
         ensures same { OnlyTableRoom self.old self.new }
+        ensures lie { TableLies self.old.slots → TableLies self.new.slots }
         ensures ok { OnOk result (is_some (seat_at (actors_of self.old.slots) to) ≡ true
             → n ≤ (slot_at self.new.slots to).mail.spare) }
     {
@@ -243,6 +246,7 @@ impl ActorTable {
     pub fn reserve_actor(&mut self) -> Result<(), NoMemory>
         requires few { length self.old.slots < ACTORS_LIMIT }
         ensures slots { self.new.slots ≡ self.old.slots }
+        ensures lie { TableLies self.old.slots → TableLies self.new.slots }
         ensures ok { OnOk result (0 < self.new.spare) }
     {
         reserve_bits(&self.slots, &mut self.acting, &mut self.settling)?;
@@ -256,7 +260,9 @@ impl ActorTable {
         requires room { 0 < self.old.spare }
         requires few { length self.old.slots < ACTORS_LIMIT }
         requires owner { cell.heap.owner ≡ length self.old.slots }
-        ensures { self.new.slots ≡ self.old.slots ++ record { place = Home cell; mail = mail } ∷ [] }
+        ensures slots { self.new.slots
+            ≡ self.old.slots ++ record { place = Home cell; mail = mail } ∷ [] }
+        ensures lie { AllIn cell.heap → TableLies self.old.slots → TableLies self.new.slots }
     {
         let made = self.slots.len();
         let slot = Slot {
@@ -283,7 +289,11 @@ impl ActorTable {
         requires { CanChange a (C.as_change change.now) (slot_at self.old.slots a) }
         ensures actors { actors_of self.new.slots
             ≡ changed_at (seat_after code.now a (C.as_change change.now)) a (actors_of self.old.slots) }
-        ensures told { TellsOnly (TableTells self.old.slots) [] (TableTells self.new.slots) }
+        ensures told { (c : a_cell) → (slot_at self.old.slots a).place ≡ Home c
+            → TellsOnly (TableTells self.old.slots) (C.makes_in change.now c)
+            (TableTells self.new.slots) }
+        ensures lie { C.puts_all change.now
+            → TableLies self.old.slots → TableLies self.new.slots }
         ensures rest { KeepsRest self.old self.new }
         ensures taken { option_map as_letter result
             ≡ letter_taken (C.as_change change.now) (slot_at self.old.slots a).mail.letters }
@@ -304,6 +314,7 @@ impl ActorTable {
             ≡ push_letter to (as_letter letter) (actors_of self.old.slots) }
         ensures told { TellsOnly (TableTells self.old.slots) (all_brought (brought_in letter))
             (TableTells self.new.slots) }
+        ensures lie { TableLies self.old.slots → TableLies self.new.slots }
         ensures spare { self.new.spare ≡ self.old.spare }
         ensures away { away_of self.new.slots ≡ away_of self.old.slots }
         ensures room { (b : ℕ) → (slot_at self.old.slots b).mail.spare
@@ -323,6 +334,7 @@ impl ActorTable {
     pub fn clear(&mut self, alloc: Global, a: ActorName)
         ensures actors { actors_of self.new.slots ≡ set (actors_of self.old.slots) a None }
         ensures told { TellsOnly (TableTells self.old.slots) [] (TableTells self.new.slots) }
+        ensures lie { TableLies self.old.slots → TableLies self.new.slots }
         ensures spare { self.new.spare ≡ self.old.spare }
         ensures away { away_of self.new.slots ≡ set (away_of self.old.slots) a false }
         ensures room { (b : ℕ) → b ≢ a → slot_at self.new.slots b ≡ slot_at self.old.slots b }
@@ -345,6 +357,7 @@ impl ActorTable {
         ensures away { away_of self.new.slots
             ≡ (if is_some result then set (away_of self.old.slots) a true else away_of self.old.slots) }
         ensures told { TellsOnly (TableTells self.old.slots) [] (TableTells self.new.slots) }
+        ensures lie { TableLies self.old.slots → TableLies self.new.slots }
         ensures space { KeepsSpace self.old self.new }
     {
         if a.0 as usize >= self.slots.len() {
@@ -369,6 +382,7 @@ impl ActorTable {
         ensures actors { actors_of self.new.slots ≡ actors_of self.old.slots }
         ensures away { away_of self.new.slots ≡ set (away_of self.old.slots) a false }
         ensures told { TellsOnly (TableTells self.old.slots) [] (TableTells self.new.slots) }
+        ensures lie { AllIn cell.heap → TableLies self.old.slots → TableLies self.new.slots }
         ensures space { KeepsSpace self.old self.new }
     {
         let slot = &mut self.slots[a.0 as usize];

@@ -1,6 +1,6 @@
 // An actor's events, each where its counts allow it.
 
-ghost use Rattle.std.specs.Prelude.{◌≡◌, IsTrue, None};
+ghost use Rattle.std.specs.Prelude.{◌≡◌, ◌+◌, ◌<◌, ◌^◌, IsSome, IsTrue, None, length};
 ghost use Rattle.actor_cell.specs.Cells.{as_cell};
 ghost use Rattle.actor_cell.specs.Goes.{CanMove};
 ghost use Rattle.actor_cell.specs.Moves.{act_in};
@@ -22,6 +22,7 @@ use orca_names::{Options, Thing, Trace};
 use row_store::{NoBlocks, Told as ToldRow};
 use std::alloc::Global;
 use std::test::Fail;
+use turn_rules::SpareFrame;
 use turn_step::Turn;
 
 const WEIGHT: u32 = 256;
@@ -147,6 +148,51 @@ pub(crate) fn goes(alloc: Global, code: &Checked, cell: &mut Cell) -> Result<Out
     let mut turn = Turn::new(alloc);
     let mut found = Turned::new(alloc);
     goes_over(alloc, code, cell, &mut turn, &mut found)
+}
+
+// What was found of the actor's turn is done, and the rows that it made lie in these blocks.
+fn does_in(
+    cell: &mut Cell,
+    turn: &Turn,
+    found: &Turned,
+    blocks: &[u32],
+    spare: &mut SpareFrame,
+) -> Result<(), Fail>
+    requires running { IsSome cell.old.frame }
+    requires can { CanMove cell.old.heap.owner (as_cell cell.old).holdings turn.now
+        (act_in found.now) }
+    requires serials { cell.old.heap.next + length turn.now.made < 2 ^ 64 }
+{
+    cell.reserve_go(turn, found)?;
+    cell.apply_go(turn, found, blocks, spare);
+    Ok(())
+}
+
+/// The actor goes on, if its counts allow what it would do, and the rows that it makes lie in these
+/// blocks.
+pub(crate) fn goes_in(
+    alloc: Global,
+    code: &Checked,
+    cell: &mut Cell,
+    blocks: &[u32],
+) -> Result<(), Fail>
+    requires { TellsNothing (Tells cell.old) }
+{
+    if !cell.frame.is_some() || cell.heap.made() > 1000 {
+        return Err(Fail::from("it cannot go"));
+    }
+    let options = Options {
+        weight: WEIGHT,
+        trace: Trace::Deep,
+    };
+    let mut turn = Turn::new(alloc);
+    let mut found = Turned::new(alloc);
+    let words = &mut NoBlocks::default();
+    cell.find_go(alloc, code, options, &mut turn, &mut found, words)?;
+    if !allows(cell, &found) {
+        return Err(Fail::from("its counts do not allow what it would do"));
+    }
+    does_in(cell, &turn, &found, blocks, &mut SpareFrame::new(alloc))
 }
 
 /// What the actor gives out as it collects, if it holds others' things alone.

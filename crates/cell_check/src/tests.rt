@@ -4,12 +4,13 @@ ghost use Rattle.std.specs.Prelude.{◌≡◌, None};
 ghost use Rattle.letter_kinds.specs.Telling.{TellsNothing};
 ghost use Rattle.actor_cell.specs.Tells.{Tells};
 
-use crate::going::{checked, collects, goes, takes};
+use crate::going::{checked, collects, goes, goes_in, takes};
 use actor_cell::{Cell, Out};
 use behaviour_check::Checked;
 use behaviour_code::Name;
 use letter_kinds::{Letter, Load, Note, SentArgs};
 use orca_names::Value;
+use row_store::Told;
 use std::alloc::Global;
 use std::test::Fail;
 
@@ -87,6 +88,32 @@ fn the_first_does(alloc: Global, text: &str) -> Result<bool, Fail> {
 #[test]
 fn an_actor_does_its_events_whole(rt: HostRuntime) -> Result<(), Fail> {
     assert!(rt; the_first_does(rt.alloc(), PRINTS)?);
+    Ok(())
+}
+
+/// Whether the one object that its next turn makes lies in this block then.
+fn makes_in(alloc: Global, code: &Checked, cell: &mut Cell, block: u32) -> Result<bool, Fail>
+    requires { TellsNothing (Tells cell.old) }
+{
+    goes_in(alloc, code, cell, &[block])?;
+    let objects = cell.heap.objects();
+    Ok(objects.len() == 1 && objects[0].1 == Told::In(block))
+}
+
+/// Whether so it is with the first actor of a program.
+fn the_first_makes_in(alloc: Global, text: &str, block: u32) -> Result<bool, Fail> {
+    let code = checked(alloc, text)?;
+    let mut cell = Cell::first(alloc, &code);
+    let Some(start) = code.program().start_name() else {
+        return Err(Fail::from("no start"));
+    };
+    take(alloc, &code, &mut cell, start)?;
+    makes_in(alloc, &code, &mut cell, block)
+}
+
+#[test]
+fn a_row_that_is_made_lies_in_its_block(rt: HostRuntime) -> Result<(), Fail> {
+    assert!(rt; the_first_makes_in(rt.alloc(), PRINTS, 3)?);
     Ok(())
 }
 

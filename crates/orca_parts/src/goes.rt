@@ -100,6 +100,7 @@ fn prepare_turn(alloc: Global, m: &mut Core<'_>, a: ActorName) -> Result<(), Ste
     let change = Go {
         turn: &m.parts.turn,
         found: &m.parts.turned,
+        blocks: &[],
         name: m.parts.table.next_name(),
         weight: m.options.weight,
     };
@@ -309,6 +310,7 @@ pub(crate) fn apply_go(alloc: Global, m: &mut Core<'_>, a: ActorName) -> Option<
     let change = Go {
         turn: &m.parts.turn,
         found: &m.parts.turned,
+        blocks: &[],
         name: m.parts.table.next_name(),
         weight: m.options.weight,
     };

@@ -7,5 +7,5 @@ pub returns-clause-untold : goal.returns-clause-untold
 returns-clause-untold c =
     let cell = c.first.result in
     let mail = c.in_ok-mail.mail in
-    first_untold c.reserve_actor.new.self.slots c.push_actor.new.self.slots (record { place = Home cell; mail = mail }) (search rules) c.push_actor.ensures
+    first_untold c.reserve_actor.new.self.slots c.push_actor.new.self.slots (record { place = Home cell; mail = mail }) (search rules) c.push_actor.ensures.slots
     (both_untold cell mail c.first.ensures.told c.in_ok-mail.ensures.untold)

@@ -11,7 +11,7 @@ returns c = record {
   state = grind (arith, common_steps);
   alike = record { code = refl; options = refl };
   away = λ b. ap (λ bs. is_out bs b) c.change.ensures.rest.away;
-  told = c.change.ensures.told;
+  told = c.change.ensures.told c.requires.acts.cell c.requires.acts.home;
   woken = none_woken_by (λ (x : Cell). record x { reported = true }) c.args.a (actors_of c.args.m.now.parts.table.slots)
       (actors_of c.change.new.self.slots) c.change.ensures.actors;
   stands = λ well on. cc;

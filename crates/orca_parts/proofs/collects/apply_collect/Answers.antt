@@ -50,7 +50,7 @@ returns c =
           acts.may (c.into_vec.ensures ∙ c.replace-back.ensures.value ∙ acts.so.back_is) (pushed.actors ∙ ap (push_all (decs_to c.into_vec.result.items)) actors);
       alike = record { code = refl; options = refl };
       away = λ b. ap (λ bs. is_out bs b) (pushed.away ∙ c.change.ensures.rest.away);
-      told = tells_then (TableTells slots) (TableTells c.change.new.self.slots) (TableTells c.push_decs.new.table.slots) [] c.change.ensures.told pushed.told;
+      told = tells_then (TableTells slots) (TableTells c.change.new.self.slots) (TableTells c.push_decs.new.table.slots) [] (c.change.ensures.told cell acts.home) pushed.told;
       woken = woken_changed (swept trace a) a (actors_of slots) (actors_of c.change.new.self.slots)
           (actors_of c.push_decs.new.table.slots) c.push_decs.result c.change.ensures.actors pushed.woken;
       stands = λ well on. cc;

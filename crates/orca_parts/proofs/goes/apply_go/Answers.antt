@@ -1,4 +1,4 @@
-use Rattle.std.proofs.Common.{◌≡◌, ℕ, IsSome, length, refl, ap, subst, sym, ◌∙◌, arith}
+use Rattle.std.proofs.Common.{◌≡◌, inl, ⊎_elim, ℕ, IsSome, length, refl, ap, subst, sym, ◌∙◌, arith}
 use Rattle.std.specs.FinMap.{get}
 use Rattle.std.proofs.lemmas.List.{length-map}
 use Rattle.orca_names.specs.declared.names.Thing.TheVariants.{Actor}
@@ -20,6 +20,8 @@ use Rattle.orca_parts.proofs.Gone.{fits_limit, go_goes}
 use Rattle.orca_parts.proofs.Waking.{woken_changed}
 use Rattle.orca_parts.proofs.goes.apply_go.Goals as goal
 use Rattle.actor_table.specs.Telling.{TableTells}
+use Rattle.letter_kinds.specs.Telling.{in_block}
+use Rattle.letter_kinds.proofs.Lying.{none_made}
 use Rattle.letter_kinds.proofs.Telling.{tells_then}
 use Rattle.actor_cell.specs.Tells.{told_out}
 
@@ -72,7 +74,8 @@ returns c =
           ∙ sym (gives.state options));
       alike = record { code = refl; options = refl };
       away = λ b. gives.away b ∙ ap (λ bs. is_out bs b) c.change.ensures.rest.away;
-      told = tells_then (TableTells slots) (TableTells c.change.new.self.slots) (TableTells c.give_out.new.parts.table.slots) (told_out t) c.change.ensures.told gives.told;
+      told = tells_then (TableTells slots) (TableTells c.change.new.self.slots) (TableTells c.give_out.new.parts.table.slots) (told_out t)
+          (λ n row block told. ⊎_elim inl (λ its. absurd (none_made fits.cell.heap.owner fits.cell.heap.next m.turn.made (in_block n row block) its)) (c.change.ensures.told fits.cell fits.home n row block told)) gives.told;
       woken = woken_changed (λ x. named weight c.next_name.result act (moved a m.turn t.place act x)) a (actors_of slots)
           (actors_of c.change.new.self.slots) (actors_of c.give_out.new.parts.table.slots) c.give_out.result c.change.ensures.actors gives.woken;
       stands = λ well on. gives.awaited options.trace (λ owner mints.

@@ -15,7 +15,7 @@ use Rattle.actor_table.proofs.Telling.{fresh_untold, place_added}
 pub returns-clause-away : goal.returns-clause-away
 returns-clause-away c =
     let slots = c.args.table.now.slots in
-    subst (λ xs. KeepsAway (away_of slots) (away_of xs)) (sym c.push_actor.ensures)
+    subst (λ xs. KeepsAway (away_of slots) (away_of xs)) (sym c.push_actor.ensures.slots)
     (pushed_keeps slots (record { place = Home c.fresh-cell.result; mail = c.new.result }) refl)
 
 pub returns-clause-woken : goal.returns-clause-woken
@@ -23,12 +23,12 @@ returns-clause-woken c =
     let old = c.args.table.now.slots in
     let new = actors_of c.push_actor.new.self.slots in
     let x : Slot = record { place = Home c.fresh-cell.result; mail = c.new.result } in
-    let is = ap actors_of c.push_actor.ensures ∙ map-append seat_of old (x ∷ []) in
+    let is = ap actors_of c.push_actor.ensures.slots ∙ map-append seat_of old (x ∷ []) in
     let long : length (actors_of old) ≡ c.next_name-name.result = length-map old seat_of ∙ sym c.next_name-name.ensures in
     subst (λ n. IsLowestWoken (actors_of old) new (Some n)) long (made_wakes (seat_of x) (actors_of old) new c.new.ensures.0 is)
 
 pub returns-clause-told : goal.returns-clause-told
 returns-clause-told c =
     let slots = c.args.table.now.slots in
-    subst (λ xs. TellsOnly (TableTells slots) [] (TableTells xs)) (sym c.push_actor.ensures)
+    subst (λ xs. TellsOnly (TableTells slots) [] (TableTells xs)) (sym c.push_actor.ensures.slots)
     (place_added slots (record { place = Home c.fresh-cell.result; mail = c.new.result }) (fresh_untold c.fresh-cell.result c.new.result c.fresh-cell.ensures.told c.new.ensures.1))

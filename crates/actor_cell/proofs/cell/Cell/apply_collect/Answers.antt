@@ -7,6 +7,7 @@ use Rattle.actor_cell.specs.declared.sweeping.Sweep.{Sweep}
 use Rattle.actor_cell.specs.Cells.{as_cell}
 use Rattle.actor_cell.proofs.Swept.{swept_is, unused_rises, used_stay}
 use Rattle.actor_cell.proofs.Tells.{brought_left, held_given, own_freed, tells_only}
+use Rattle.actor_cell.proofs.Lying.{lie_freed}
 use Rattle.actor_cell.proofs.cell.Cell.apply_collect.Goals as goal
 
 pub apply-requires : goal.apply-requires
@@ -36,3 +37,6 @@ returns-clause-told c =
     tells_only s.heap c.apply.new.heap s.foreign c.apply.new.foreign s.known c.forget.new.self [] (own_freed found.plan.free s.heap c.apply.new.heap c.apply.ensures.heap)
     (held_given found.plan.back s.foreign c.apply.new.foreign [] c.apply.ensures.foreign)
     (brought_left s.known c.forget.new.self (λ x. not (goes_back c.as_slice.result.now x)) [] c.forget.ensures.rows c.forget.ensures.blocks)
+
+pub returns-clause-lie : goal.returns-clause-lie
+returns-clause-lie c = lie_freed c.args.found.now.plan.free c.args.self.now.heap c.apply.new.heap c.apply.ensures.heap

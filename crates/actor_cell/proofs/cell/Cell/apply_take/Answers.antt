@@ -14,7 +14,8 @@ use Rattle.actor_cell.specs.Cells.{as_cell}
 use Rattle.actor_cell.specs.Takes.{CanTake}
 use Rattle.letter_kinds.specs.Telling.{all_brought, brought_in, in_block}
 use Rattle.actor_cell.specs.Tells.{Tells}
-use Rattle.actor_cell.proofs.Tells.{SameRows, held_received, own_counted, own_received, same_lowered, same_raised, tells_counted, tells_taken, told_before}
+use Rattle.actor_cell.proofs.Tells.{SameRows, held_received, own_counted, own_received, row_in, same_lowered, same_raised, tells_counted, tells_taken, told_before}
+use Rattle.actor_cell.proofs.Lying.{lie_counted}
 use Rattle.actor_cell.proofs.cell.Cell.apply_take.Goals as goal
 
 pub returns-in-App-clause-cell : goal.returns-in-App-clause-cell
@@ -97,3 +98,27 @@ returns-in-Dec-clause-told c = λ n row block told.
 
 pub returns-in-Confirm-clause-told : goal.returns-in-Confirm-clause-told
 returns-in-Confirm-clause-told c = λ n row block told. inl told
+
+pub returns-in-App-clause-lie : goal.returns-in-App-clause-lie
+returns-in-App-clause-lie c = λ all.
+    let s = c.args.self.now in
+    let its = c.receive_trace.ensures in
+    let h = (as_cell s).holdings in
+    c.wake.ensures.lie (lie_counted s.heap c.receive_trace.new.heap
+    (λ q. ap (λ (g : Holdings). row_in (m.get g.rows q)) its.counts ∙ own_received _ (as_load c.in-App.load) h q) its.blocks.0 all)
+
+pub returns-in-Inc-clause-lie : goal.returns-in-Inc-clause-lie
+returns-in-Inc-clause-lie c = λ all.
+    let s = c.args.self.now in
+    let its = c.raise_counts.ensures in
+    let h = (as_cell s).holdings in
+    let rows = subst (λ g. SameRows g h) (sym (its.counts s.foreign)) (same_raised _ c.in-Inc.things h) in
+    c.wake-in-Inc.ensures.lie (lie_counted s.heap c.raise_counts.new.heap rows.own its.blocks all)
+
+pub returns-in-Dec-clause-lie : goal.returns-in-Dec-clause-lie
+returns-in-Dec-clause-lie c = λ all.
+    let s = c.args.self.now in
+    let its = c.lower_counts.ensures in
+    let h = (as_cell s).holdings in
+    let rows = subst (λ g. SameRows g h) (sym (its.counts s.foreign)) (same_lowered _ c.in-Dec.things h) in
+    c.wake-in-Dec.ensures.lie (lie_counted s.heap c.lower_counts.new.heap rows.own its.blocks all)

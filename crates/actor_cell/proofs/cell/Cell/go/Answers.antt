@@ -1,4 +1,4 @@
-use Rattle.std.proofs.Common.{◌≡◌, Option, None, Some, refl, sym, ap, ◌∙◌}
+use Rattle.std.proofs.Common.{◌≡◌, ⊎_elim, Option, None, Some, refl, sym, ap, ◌∙◌}
 use Rattle.std.specs.Prelude.{IsSomeAnd, option_map}
 use Rattle.turn_rules.specs.declared.act.Frame.{Frame}
 use Rattle.machine_rules.specs.Cell as rules
@@ -7,13 +7,15 @@ use Rattle.actor_cell.specs.Goes.{IsTold, cell_by, gone_by, out_of, turned_in}
 use Rattle.actor_cell.specs.Moves.{act_in}
 use Rattle.actor_cell.specs.Outs.{as_out}
 use Rattle.letter_kinds.specs.Telling.{in_block}
-use Rattle.actor_cell.proofs.Tells.{told_before}
+use Rattle.letter_kinds.proofs.Lying.{none_made}
 use Rattle.actor_cell.proofs.Telling.{told_gone}
 use Rattle.actor_cell.proofs.cell.Cell.go.Goals as goal
 
 pub returns-clause-told : goal.returns-clause-told
 returns-clause-told g c = λ n row block told.
-    told_before (in_block n row block) (c.apply_go.ensures.told n row block told) (c.in_ok-reserve_go.ensures.told n row block)
+    ⊎_elim (c.in_ok-reserve_go.ensures.told n row block)
+    (λ none. absurd (none_made c.reserve_go.new.self.heap.owner c.reserve_go.new.self.heap.next c.find_go.new.turn.made (in_block n row block) none))
+    (c.apply_go.ensures.told n row block told)
 
 pub returns-clause-gone : goal.returns-clause-gone
 returns-clause-gone g c = by c.args.self.now.frame refl c.in_ok-find_go.ensures.found.told

@@ -10,3 +10,6 @@ returns-clause-told c =
     let letters = c.args.mail.now.brought in
     subst (λ later. TellsOnly (TellsWith cell letters) [] (TellsWith c.apply_take.new.self later)) (sym c.take.ensures.others.1)
     (with_taken cell c.apply_take.new.self letters (brought_in c.in-Some.letter.now) (sym c.in-Some.ensures.brought) c.apply_take.ensures.told)
+
+pub returns-clause-lie : goal.returns-clause-lie
+returns-clause-lie c = λ _. c.apply_take.ensures.lie

@@ -1,10 +1,12 @@
-use Rattle.std.proofs.Common.{[], ◌≤◌, ap, rules, set, subst, sym, ◌∙◌}
+use Rattle.std.proofs.Common.{◌≡◌, ◌≤◌, ap, rules, set, subst, sym, ◌∙◌}
 use Rattle.std.specs.Prelude.{unwrap_or}
 use Rattle.actor_table.specs.Changes.{CanChange, KeepsRoom}
+use Rattle.actor_table.specs.declared.slot.Place.TheVariants.{Home}
 use Rattle.actor_table.specs.declared.slot.Slot.{Slot}
 use Rattle.actor_table.specs.Slots.{Table, away_of, is_away}
-use Rattle.actor_table.specs.Telling.{TableTells}
+use Rattle.actor_table.specs.Telling.{TableLies, TableTells}
 use Rattle.letter_kinds.specs.Telling.{TellsOnly}
+use Rattle.actor_table.proofs.Lying.{place_lies_in}
 use Rattle.actor_table.proofs.Telling.{place_tells_in}
 use Rattle.actor_table.proofs.Changing.{bits_follow, change_here, going_on, home_within, inside, part_kept, place_read, room_kept}
 use Rattle.actor_table.proofs.table.ActorTable.change.Goals as goal
@@ -46,10 +48,24 @@ returns-clause-rest g c =
     }
 
 pub returns-clause-told : goal.returns-clause-told
-returns-clause-told g c =
+returns-clause-told g c = λ its home.
     let slots = c.self.inside.slots.items in
     let i = c.a.inside.0 in
     let x = c.change-taken.new.slot in
     let can = inside (λ a. CanChange a (g.C.Changes.as_change c.args.change.now)) i _ _ _ c.self.view_is c.a.view_is c.requires in
-    subst (λ (t : Table). TellsOnly (TableTells t.slots) [] (TableTells (set slots i x))) c.self.view_is
-    (place_tells_in slots i x c.index_mut-slot.result.now [] (home_within slots i can.cell can.home) c.index_mut-slot.ensures.value c.change-taken.ensures.told)
+    let within = home_within slots i can.cell can.home in
+    let here = place_read slots i c.index_mut-slot.result.now within c.index_mut-slot.ensures.value in
+    let at_home = inside (λ b (y : Slot). y.place ≡ Home its) i _ _ _ c.self.view_is c.a.view_is home in
+    let makes = g.C.Changes.makes_in c.args.change.now its in
+    subst (λ (t : Table). TellsOnly (TableTells t.slots) makes (TableTells (set slots i x))) c.self.view_is
+    (place_tells_in slots i x c.index_mut-slot.result.now makes within c.index_mut-slot.ensures.value
+    (c.change-taken.ensures.told its (ap (λ (y : Slot). y.place) (sym here) ∙ at_home)))
+
+pub returns-clause-lie : goal.returns-clause-lie
+returns-clause-lie g c = λ puts.
+    let slots = c.self.inside.slots.items in
+    let i = c.a.inside.0 in
+    let x = c.change-taken.new.slot in
+    let can = inside (λ a. CanChange a (g.C.Changes.as_change c.args.change.now)) i _ _ _ c.self.view_is c.a.view_is c.requires in
+    subst (λ (t : Table). TableLies t.slots → TableLies (set slots i x)) c.self.view_is
+    (place_lies_in slots i x c.index_mut-slot.result.now (home_within slots i can.cell can.home) c.index_mut-slot.ensures.value (c.change-taken.ensures.lie puts))

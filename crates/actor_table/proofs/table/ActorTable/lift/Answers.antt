@@ -1,10 +1,11 @@
 use Rattle.std.proofs.Common.{ap, rules, ◌∙◌, [], subst, set}
 use Rattle.std.specs.Prelude.{unwrap_or}
+use Rattle.actor_table.proofs.Lying.{place_lies_in}
 use Rattle.actor_table.proofs.Changing.{bits_follow}
 use Rattle.actor_table.proofs.table.ActorTable.lift.Goals as goal
 use Rattle.actor_table.proofs.Telling.{place_tells_in}
 use Rattle.actor_table.specs.Slots.{Table}
-use Rattle.actor_table.specs.Telling.{TableTells}
+use Rattle.actor_table.specs.Telling.{TableLies, TableTells}
 use Rattle.letter_kinds.specs.Telling.{TellsOnly}
 
 pub invariant_of-self : goal.invariant_of-self
@@ -19,3 +20,10 @@ returns-clause-told c =
     let i = c.a.inside.0 in
     subst (λ (t : Table). TellsOnly (TableTells t.slots) [] (TableTells (set slots i c.lift-lent.new.slot))) c.self.view_is
     (place_tells_in slots i c.lift-lent.new.slot c.index_mut-slot.result.now [] (search rules) c.index_mut-slot.ensures.value c.lift-lent.ensures.told)
+
+pub returns-clause-lie : goal.returns-clause-lie
+returns-clause-lie c =
+    let slots = c.self.inside.slots.items in
+    let i = c.a.inside.0 in
+    subst (λ (t : Table). TableLies t.slots → TableLies (set slots i c.lift-lent.new.slot)) c.self.view_is
+    (place_lies_in slots i c.lift-lent.new.slot c.index_mut-slot.result.now (search rules) c.index_mut-slot.ensures.value c.lift-lent.ensures.lie)

@@ -2,6 +2,8 @@ use Rattle.std.proofs.Common.{◌≡◌, length, set, ap, sym, subst, ◌∙◌,
 use Rattle.actor_table.specs.declared.slot.Slot.{Slot}
 use Rattle.actor_table.specs.declared.slot.Place.TheVariants.{Home}
 use Rattle.actor_table.specs.Slots.{AreIndexed, Table, can_act, can_settle}
+use Rattle.actor_table.specs.Telling.{TableLies}
+use Rattle.actor_table.proofs.Lying.{lies_added}
 use Rattle.actor_table.proofs.Changing.{indexed_push}
 use Rattle.actor_table.proofs.table.ActorTable.push_actor.Goals as goal
 
@@ -19,3 +21,10 @@ invariant_of-self c =
     (indexed_push slots acting settling c.put_bits.new.acting c.put_bits.new.settling x c.self.invariant
     (omega (arith, seen, c.requires.few)) (omega (arith, spare, c.requires.room, len)) (omega (arith, spare, c.requires.room, len)) (c.requires.owner ∙ sym seen)
     (c.put_bits.ensures.acting ∙ ap (λ n. set acting n (can_act x)) made) (c.put_bits.ensures.settling ∙ ap (λ n. set settling n (can_settle x)) made))
+
+pub returns-clause-lie : goal.returns-clause-lie
+returns-clause-lie c = λ its all.
+    let slots = c.self.inside.slots.items in
+    let x : Slot = record { place = Home c.args.cell; mail = c.args.mail } in
+    subst TableLies (sym c.push_reserved.ensures.items)
+    (lies_added slots x its (subst (λ (t : Table). TableLies t.slots) (sym c.self.view_is) all))

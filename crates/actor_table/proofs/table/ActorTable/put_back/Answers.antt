@@ -4,7 +4,8 @@ use Rattle.machine_rules.specs.Actors.{Seat}
 use Rattle.actor_cell.specs.Cells.{as_cell}
 use Rattle.actor_cell.specs.Tells.{Tells}
 use Rattle.letter_kinds.specs.Telling.{TellsOnly}
-use Rattle.actor_table.specs.Telling.{PlaceTells, TableTells}
+use Rattle.actor_table.specs.Telling.{PlaceLies, PlaceTells, TableLies, TableTells}
+use Rattle.actor_table.proofs.Lying.{place_lies_in}
 use Rattle.actor_table.proofs.Telling.{place_tells, slot_back}
 use Rattle.actor_table.specs.declared.slot.Slot.{Slot}
 use Rattle.actor_table.specs.Slots.{Table, actors_of, is_away, seat_of, slot_at}
@@ -42,3 +43,12 @@ returns-clause-told c =
     subst (λ (t : Table). TellsOnly (TableTells t.slots) [] (TableTells (set slots i x))) c.self.view_is
     (place_tells slots i x [] within
     (slot_back x (slot_at slots i) c.args.cell c.put_back.ensures.place (c.put_back.ensures.mail ∙ ap (λ (y : Slot). y.mail) (sym here)) its))
+
+pub returns-clause-lie : goal.returns-clause-lie
+returns-clause-lie c = λ its.
+    let slots = c.self.inside.slots.items in
+    let i = c.a.inside.0 in
+    let x = c.put_back.new.slot in
+    let away = inside (λ _ x. is_away x ≡ true) i _ _ _ c.self.view_is c.a.view_is c.requires.away in
+    subst (λ (t : Table). TableLies t.slots → TableLies (set slots i x)) c.self.view_is
+    (place_lies_in slots i x c.index_mut-slot.result.now (away_within slots i away) c.index_mut-slot.ensures.value (λ _. subst PlaceLies (sym c.put_back.ensures.place) its))

@@ -1,9 +1,10 @@
 use Rattle.std.proofs.Common.{rules, [], subst, set}
+use Rattle.actor_table.proofs.Lying.{place_lies_in}
 use Rattle.actor_table.proofs.Changing.{index_stays}
 use Rattle.actor_table.proofs.table.ActorTable.reserve.Goals as goal
 use Rattle.actor_table.proofs.Telling.{place_tells_in}
 use Rattle.actor_table.specs.Slots.{Table}
-use Rattle.actor_table.specs.Telling.{TableTells}
+use Rattle.actor_table.specs.Telling.{TableLies, TableTells}
 use Rattle.letter_kinds.specs.Telling.{TellsOnly}
 
 pub invariant_of-self : goal.invariant_of-self
@@ -19,3 +20,10 @@ returns-clause-told g c =
     let i = c.a.inside.0 in
     subst (λ (t : Table). TellsOnly (TableTells t.slots) [] (TableTells (set slots i c.reserve.new.slot))) c.self.view_is
     (place_tells_in slots i c.reserve.new.slot c.index_mut.result.now [] (search rules) c.index_mut.ensures.value c.reserve.ensures.told)
+
+pub returns-clause-lie : goal.returns-clause-lie
+returns-clause-lie g c =
+    let slots = c.self.inside.slots.items in
+    let i = c.a.inside.0 in
+    subst (λ (t : Table). TableLies t.slots → TableLies (set slots i c.reserve.new.slot)) c.self.view_is
+    (place_lies_in slots i c.reserve.new.slot c.index_mut.result.now (search rules) c.index_mut.ensures.value c.reserve.ensures.lie)

@@ -3,7 +3,8 @@ use Rattle.letter_kinds.specs.Telling.{TellsOnly}
 use Rattle.actor_table.specs.Changes.{KeepsRoom}
 use Rattle.actor_table.specs.declared.slot.Slot.{Slot}
 use Rattle.actor_table.specs.Slots.{Table, actors_of, away_of, is_away, is_away_in, letters_in, places_of, seat_in, seat_of}
-use Rattle.actor_table.specs.Telling.{TableTells}
+use Rattle.actor_table.specs.Telling.{PlaceLies, TableLies, TableTells}
+use Rattle.actor_table.proofs.Lying.{place_lies_in}
 use Rattle.actor_table.proofs.Telling.{place_tells_in, slot_same}
 use Rattle.actor_table.proofs.Changing.{index_stays, part_kept, place_read, room_kept}
 use Rattle.actor_table.proofs.table.ActorTable.reserve_letters.Goals as goal
@@ -38,3 +39,10 @@ returns-clause-same c =
             (room_kept slots i x (subst (λ (s : Slot). s.mail.spare ≤ x.mail.spare) (sym here) does.room));
       };
     }
+
+pub returns-clause-lie : goal.returns-clause-lie
+returns-clause-lie c =
+    let slots = c.self.inside.slots.items in
+    let i = c.to.inside.0 in
+    subst (λ (t : Table). TableLies t.slots → TableLies (set slots i c.reserve_letters.new.slot)) c.self.view_is
+    (place_lies_in slots i c.reserve_letters.new.slot c.index_mut.result.now (search rules) c.index_mut.ensures.value (subst PlaceLies (sym c.reserve_letters.ensures.place)))
