@@ -107,7 +107,8 @@ impl Cell {
         words: &mut W,
     ) -> Result<Load, NoMemory>
         requires stand { HoldsTold (W.known words.old) (Tells self.now) }
-        ensures load { let rows = row_of self.now.heap.owner (with_made made.now (as_cell self.now).holdings) in
+        ensures load { let rows = row_of self.now.heap.owner
+            (with_made made.now (as_cell self.now).holdings) in
             IfOk result (λ load. as_load load ≡ map (λ x. (x, thing_row rows x)) things.now) }
         ensures told { IfOk result (λ load. TellsOnly (Tells self.now) [] (Told load)) }
         ensures words { SameWords W.known W.places W.beside words.old words.new }

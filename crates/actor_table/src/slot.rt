@@ -261,14 +261,16 @@ pub(crate) fn change<C: Changes>(
     change: &C,
     spare: &mut SpareFrame,
 ) -> Option<Letter>
-    requires { IsSomeAnd (home_of slot.old) (λ c. CanChange c.heap.owner (C.as_change change.now) slot.old) }
+    requires { IsSomeAnd (home_of slot.old)
+        (λ c. CanChange c.heap.owner (C.as_change change.now) slot.old) }
     ensures seat { (a : ℕ) → IsOwnedBy a slot.old.place
         → seat_of slot.new ≡ seat_after code.now a (C.as_change change.now) (seat_of slot.old) }
     ensures told { (c : a_cell) → slot.old.place ≡ Home c
         → TellsOnly (SlotTells slot.old) (C.makes_in change.now c) (SlotTells slot.new) }
     ensures lie { C.puts_all change.now → PlaceLies slot.old.place → PlaceLies slot.new.place }
     ensures kept { KeepsPlace slot.old slot.new }
-    ensures taken { option_map as_letter result ≡ letter_taken (C.as_change change.now) slot.old.mail.letters }
+    ensures taken { option_map as_letter result
+        ≡ letter_taken (C.as_change change.now) slot.old.mail.letters }
 {
     let Place::Home(cell) = &mut slot.place else {
         unreachable!();
