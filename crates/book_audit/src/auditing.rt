@@ -43,6 +43,7 @@ fn first_refused(
             Ok(_) => {}
             Err(StepFault::NotEnabled) => return Ok(Some((place, 1))),
             Err(StepFault::ActorsFull { .. }) => return Ok(Some((place, 2))),
+            Err(StepFault::NoRows { .. }) => unreachable!(),
             Err(StepFault::NoMemory) => return Err(NoMemory),
         }
     }

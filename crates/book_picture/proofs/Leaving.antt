@@ -26,7 +26,7 @@ module _ (options : Options) (program : Program) (m : Parts) where
   event_leaves : (e : Event) (t : State) → AreApart m.detector.state.tokens → FitsEvent options program e m → next s e ≡ Goes t
       → LeavesOthers (touched_of e m) (touched_token e m) s t
   event_leaves (Take a) t apart fits goes = take_leaves options program m a t fits goes
-  event_leaves (Go a) t apart fits goes = go_leaves options program m a t fits goes
+  event_leaves (Go a) t apart fits goes = go_leaves options program m a t fits.0 goes
   event_leaves (Collect a) t apart fits goes = collect_leaves options program m a t fits goes
   event_leaves (Leave a) t apart fits goes = leave_leaves options program m a t fits goes
   event_leaves (Block a) t apart fits goes = block_leaves options program m a t fits goes

@@ -85,6 +85,7 @@ fn prepared(alloc: Global, orca: &mut Orca<'_>, event: Event) -> Result<Ready, N
         Err(StepFault::NoMemory) => Err(NoMemory),
         Err(StepFault::NotEnabled) => unreachable!(),
         Err(StepFault::ActorsFull { .. }) => unreachable!(),
+        Err(StepFault::NoRows { .. }) => unreachable!(),
     }
 }
 

@@ -13,6 +13,7 @@ use Rattle.actor_table.specs.contracts.table.ActorTable as ActorTable
 use Rattle.actor_cell.specs.contracts.turning.Turned as Turned
 use Rattle.actor_cell.specs.contracts.sweeping.Sweep as Sweep
 use Rattle.turn_step.specs.contracts.turn.Turn as Turn
+use Rattle.block_table.specs.contracts.table.BlockTable as BlockTable
 use Rattle.cycle_detect.specs.contracts.detector.Detector as Detector
 use Rattle.orca_core.specs.contracts.machine.Orca as Orca
 use Rattle.run_book.specs.contracts.book.Book as Book
@@ -61,6 +62,9 @@ token_send = search (sendable, crosses) depth 100 fits 100000
 detector_send : IsSend Detector.the_row
 detector_send = search (sendable, crosses) depth 100 fits 100000
 
+blocks_send : IsSend BlockTable.the_row
+blocks_send = search (sendable, crosses) depth 100 fits 100000
+
 turn_send : IsSend Turn.the_row
 turn_send = search (sendable, crosses) depth 100 fits 100000
 
@@ -86,7 +90,7 @@ pub checked_sync : IsSync Checked.the_row
 checked_sync = search (view_sync, recorded_sync, struct_sync, both, tt, program_sync) depth 100 fits 100000
 
 parts_send : IsSend (Parts.the_field).row
-parts_send = struct_send (shape Parts.the_type) (table_send, (detector_send, (search (note_send, Deque-send), (search (sendable, crosses) depth 20, (search sendable, (turn_send, (turned_send, (sweep_send, (search (sendable, crosses, letter_send) depth 40, (search (sendable, note_send) depth 20, (search (sendable, token_send) depth 20, (search (sendable, crosses) depth 20, tt))))))))))))
+parts_send = struct_send (shape Parts.the_type) (table_send, (detector_send, (search (note_send, Deque-send), (search (sendable, crosses) depth 20, (search sendable, (blocks_send, (turn_send, (turned_send, (search (sendable, crosses) depth 20, (sweep_send, (search (sendable, crosses, letter_send) depth 40, (search (sendable, note_send) depth 20, (search (sendable, token_send) depth 20, (search (sendable, crosses) depth 20, tt))))))))))))))
 
 pub orca_send : (l : _) → IsSend (Orca.the_row l)
 orca_send l = search (view_send, recorded_send, struct_send, shr_send, plain_send, enum_send, sendable, both, tt, parts_send, checked_sync) depth 100 fits 100000

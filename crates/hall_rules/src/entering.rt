@@ -41,12 +41,14 @@ fn prepare(
 
 /// The refusal of an enabled event whose step has this fault.
 fn refuse_of(fault: StepFault) -> Refuse
+    requires { (outcome : Step State) × (e : Event) × IsFault outcome e fault }
     ensures { (outcome : Step State) (e : Event) → unready_cause outcome ≡ None
         → IsFault outcome e fault → IsRefusal (full_cause outcome e) result }
 {
     match fault {
         StepFault::NotEnabled => Refuse::NotReady,
         StepFault::ActorsFull { actor } => Refuse::Full { actor },
+        StepFault::NoRows { actor: _ } => unreachable!(),
         StepFault::NoMemory => Refuse::NoMemory,
     }
 }

@@ -1,5 +1,5 @@
 -- The machine that collects, as contracts see its code.
-use Rattle.std.specs.Prelude.{ℕ, ◌≡◌, ◌<◌, ◌≤◌, Bool, true, false, if◌then◌else◌, List, length, Option, Some, None, option_map, ⊤}
+use Rattle.std.specs.Prelude.{ℕ, ◌≡◌, ◌<◌, ◌≤◌, Bool, true, false, if◌then◌else◌, List, length, Option, Some, None, option_map, ⊤, []}
 use Rattle.orca_names.specs.declared.limits.TheConstants.{BOOK_LIMIT}
 use Rattle.behaviour_check.specs.Rules.{IsChecked}
 use Rattle.event_rule.specs.declared.event.Event.{Event}
@@ -40,10 +40,12 @@ pub record IsReached (state : State) (steps : ℕ) : Type 0 where
   pub long : length book ≡ steps
   pub early : steps ≤ BOOK_LIMIT
 
--- it is reached, what was found last awaits a letter still, where it stands, and no row lies in a block
+-- it is reached, what was found last awaits a letter still, where it stands, and there are no blocks, so
+-- that no row lies in one
 pub record IsKept (m : Core) (steps : ℕ) : Type 0 where
   pub reached : IsReached (core_state m) steps
   pub stands : StandsWell m
+  pub none : m.parts.blocks ≡ []
   pub untold : TellsNothing (TableTells m.parts.table.slots)
 
 -- nothing but room is another

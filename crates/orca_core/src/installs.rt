@@ -14,6 +14,7 @@ use actor_cell::Found;
 use event_rule::Event;
 use orca_names::ActorName;
 use orca_parts::{Ready, StepFault, prepare, stand};
+use row_store::NoBlocks;
 use std::alloc::Global;
 
 impl<'a> Orca<'a> {
@@ -61,7 +62,7 @@ impl<'a> Orca<'a> {
         ensures fault { IfErr result (IsFault (next_without self.old.out self.old.state e) e) }
     {
         stand(&mut self.core, found);
-        prepare(alloc, &mut self.core, &e, true)?;
+        prepare(alloc, &mut self.core, &e, true, &mut NoBlocks::default())?;
         Ok(Ready { event: e })
     }
 

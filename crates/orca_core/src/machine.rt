@@ -19,12 +19,14 @@ ghost use Rattle.orca_parts.specs.Woken.{IsLowestWoken};
 use actor_cell::{Cell, Sweep, Turned};
 use actor_table::ActorTable;
 use behaviour_check::Checked;
+use block_table::BlockTable;
 use cycle_detect::Detector;
 use event_rule::Event;
 use letter_kinds::{Letter, Load, SentArgs};
 use mail_rows::MailRow;
 use orca_names::{ActorName, NoMemory, Options, Trace, Value};
 use orca_parts::{Core, Parts, Ready, StepFault, apply, prepare};
+use row_store::NoBlocks;
 use std::alloc::Global;
 use std::collections::VecDeque;
 use std::marker::Model;
@@ -126,8 +128,10 @@ impl<'a> Orca<'a> {
             notes: VecDeque::new(alloc),
             prints: Vec::new(alloc),
             objects: 0,
+            blocks: BlockTable::new(alloc),
             turn: Turn::new(alloc),
             turned: Turned::new(alloc),
+            placed: Vec::new(alloc),
             sweep: Sweep::new(alloc),
             letters: Vec::new(alloc),
             report: None,
@@ -160,7 +164,7 @@ impl<'a> Orca<'a> {
         ensures home { OnOk result (is_out_for self.old.out e ≡ false) }
         ensures fault { IfErr result (IsFault (next_without self.old.out self.old.state e) e) }
     {
-        prepare(alloc, &mut self.core, &e, false)?;
+        prepare(alloc, &mut self.core, &e, false, &mut NoBlocks::default())?;
         Ok(Ready { event: e })
     }
 
@@ -183,7 +187,7 @@ impl<'a> Orca<'a> {
         ensures woken { IsLowestWoken self.old.state.actors self.new.state.actors result }
     {
         let alloc = self.allocator();
-        let woken = apply(alloc, &mut self.core, ready.event);
+        let woken = apply(alloc, &mut self.core, ready.event, &mut NoBlocks::default());
         self.steps += 1;
         woken
     }

@@ -74,7 +74,9 @@ awaited_at options program a m c home its is =
 pub turn_known : (e : Event) (m : Core) (turn : Turn) (turned : Turned) → IsFoundFor m.options m.code.now (Goes turn turned) e m.parts.table.slots
     → HasFound e (record m { parts = record m.parts { turn = turn; turned = turned }; stands = false })
 turn_known (Take a) m turn turned its = tt
-turn_known (Go a) m turn turned its = λ c home framed. its a refl c home
+turn_known (Go a) m turn turned its = λ c home framed.
+    let known = its a refl c home in
+    (known.0, λ n row block told. absurd (known.1 n row block told))
 turn_known (Collect a) m turn turned its = λ c home rests dirty. absurd (subst (λ f. IsSomeAnd f (λ _. ⊤)) rests (framed_of _ c.frame (its a refl c home).0))
   where
     framed_of : (P : Frame → Type 0) (f : Option Frame) → IsSomeAnd f P → IsSomeAnd f (λ _. ⊤)

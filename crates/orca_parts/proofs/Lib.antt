@@ -5,6 +5,10 @@ pub mod Founding
 pub mod Giving
 pub mod Gone
 pub mod Homes
+pub mod Lacking
+pub mod Loaded
+pub mod Owned
+pub mod Placed
 pub mod Posting
 pub mod Prepared
 pub mod Preparing
@@ -13,5 +17,5 @@ pub mod Readied
 pub mod Reaping
 pub mod Reserving
 pub mod Stepped
-pub mod Waking
 pub mod Untold
+pub mod Waking

@@ -1,7 +1,9 @@
 -- A turn that was found, and what it takes to be prepared.
 use Rattle.std.proofs.Common.{◌≡◌, ◌≤◌, ℕ, true, false, List, length, get_or, Option, None, Some, refl, sym, ap, subst, ◌∙◌, []}
 use Rattle.std.specs.Prelude.{IsSomeAnd, is_some}
+use Rattle.std.specs.Global.{Vec}
 use Rattle.std.specs.Option.{option_map_or}
+use Rattle.actor_table.proofs.Telling.{still_told}
 use Rattle.std.proofs.lemmas.Bool.{false≢true}
 use Rattle.orca_names.specs.declared.limits.TheConstants.{BODY_LIMIT}
 use Rattle.behaviour_code.specs.declared.code.Program.{Program}
@@ -31,10 +33,9 @@ use Rattle.orca_parts.specs.Goes.{FitsGo, HasRoomOut, IsFoundGo}
 use Rattle.orca_parts.specs.Parts.{state_of}
 use Rattle.orca_parts.specs.declared.parts.Parts.{Parts}
 use Rattle.orca_parts.proofs.Giving.{seat_here}
-use Rattle.actor_table.specs.Telling.{TableTells}
+use Rattle.actor_table.specs.Telling.{TableLies, TableTells}
 use Rattle.letter_kinds.proofs.Telling.{tells_then}
-use Rattle.letter_kinds.specs.Telling.{TellsNothing, TellsOnly, Told}
-use Rattle.actor_cell.specs.Tells.{told_out}
+use Rattle.letter_kinds.specs.Telling.{TellsOnly}
 
 -- an actor that is present and not away has its cell at home
 home_in : (place : Place) (letters : List Letter) → is_some (seat_in place letters) ≡ true
@@ -63,6 +64,8 @@ only_room_then one two three first second =
       state = λ p o. second.state p o ∙ first.state p o;
       away = second.away ∙ first.away;
       told = tells_then (TableTells one.table.slots) (TableTells two.table.slots) (TableTells three.table.slots) [] first.told second.told;
+      lie = λ lies. second.lie (first.lie lies);
+      blocks = second.blocks ∙ first.blocks;
     }
 
 pub keeps_then : (one two three : Core) → KeepsCore one two → KeepsCore two three → KeepsCore one three
@@ -73,9 +76,14 @@ keeps_then one two three first second = record {
 
 -- the table has more room, and the room for a turn is used
 pub table_room : (m : Parts) (table : Table) (turn : Turn) → actors_of table.slots ≡ actors_of m.table.slots → away_of table.slots ≡ away_of m.table.slots
-    → TellsOnly (TableTells m.table.slots) [] (TableTells table.slots) → OnlyRoom m (record m { table = table; turn = turn })
-table_room m table turn actors away told =
-    record { state = λ p o. ap (λ xs. record (state_of p o m) { actors = xs }) actors; away = away; told = told }
+    → TellsOnly (TableTells m.table.slots) [] (TableTells table.slots) → (TableLies m.table.slots → TableLies table.slots)
+    → OnlyRoom m (record m { table = table; turn = turn })
+table_room m table turn actors away told lie =
+    record { state = λ p o. ap (λ xs. record (state_of p o m) { actors = xs }) actors; away = away; told = told; lie = lie; blocks = refl }
+
+-- there is memory to tell which blocks rows get
+pub placed_room : (m : Parts) (placed : Vec ℕ) → OnlyRoom m (record m { placed = placed })
+placed_room m placed = record { state = λ p o. refl; away = refl; told = still_told m.table.slots; lie = λ lies. lies; blocks = refl }
 
 -- what was found fits, once the memory was taken
 module _ (options : Options) (program : Program) (a : ℕ) (found : Turned) (old : List Slot) (turn : Turn) (mid : List Slot) (m : Parts) where
@@ -87,9 +95,9 @@ module _ (options : Options) (program : Program) (a : ℕ) (found : Turned) (old
       → IsTold options program a (as_cell c) turn found.place (act_in found) frame
       → (x : Cell) → (slot_at mid a).place ≡ Home x → as_cell x ≡ as_cell c
       → HasRoomToGo (slot_at mid a) → places_of m.table.slots ≡ places_of mid → m.turn ≡ turn
-      → HasRoomOut (act_in found) m → length turn.made ≤ BODY_LIMIT → TellsNothing (Told (told_out found))
+      → HasRoomOut (act_in found) m → length turn.made ≤ BODY_LIMIT
       → FitsGo options program a found m
-  fits_with c home frame framed is x at same room places kept out few untold =
+  fits_with c home frame framed is x at same room places kept out few =
       let sizes = room x at in
       record {
         cell = x;
@@ -101,7 +109,6 @@ module _ (options : Options) (program : Program) (a : ℕ) (found : Turned) (old
         objects = subst (λ (t : Turn). length t.made ≤ x.heap.spare) (sym kept) sizes.0;
         entries = sizes.1;
         room = out;
-        untold = untold;
       }
 
   pub fits_go : HasCell (slot_at old a) (IsFoundGo options program a turn found)
@@ -121,4 +128,4 @@ module _ (options : Options) (program : Program) (a : ℕ) (found : Turned) (old
           → HasCell (slot_at mid a) (λ x. as_cell x ≡ as_cell cell.cell) → FitsGo options program a found m
       by None framed is x = absurd is
       by (Some frame) framed is x =
-          fits_with cell.cell cell.home frame framed is x.cell x.home x.so room places kept out few cell.so.1
+          fits_with cell.cell cell.home frame framed is x.cell x.home x.so room places kept out few

@@ -13,6 +13,8 @@ use Rattle.event_rule.specs.declared.event.Event.TheVariants.{Take, Go, Collect,
 use Rattle.std.specs.VecDeque.{deque_capacity, deque_len}
 use Rattle.letter_kinds.specs.Letters.{Letter}
 use Rattle.turn_rules.specs.declared.act.Frame.{Frame}
+use Rattle.turn_rules.specs.Segment.{Turn}
+use Rattle.actor_cell.specs.declared.turning.Turned.{Turned}
 use Rattle.machine_rules.specs.Actors.{Seat, seat_at}
 use Rattle.machine_rules.specs.Cell as rules
 use Rattle.machine_rules.specs.Next.{acting}
@@ -40,9 +42,9 @@ use Rattle.actor_table.specs.Slots.{actors_of, away_of, gone, home_in, home_of, 
 use Rattle.actor_table.proofs.Changing.{away_read, seat_read}
 use Rattle.orca_parts.specs.declared.parts.Parts.{Parts}
 use Rattle.orca_parts.specs.Core.{KeepsCore, StandsWell, core_state, next_in}
-use Rattle.orca_parts.specs.Faults.{IsFault, RefusedBy}
+use Rattle.orca_parts.specs.Faults.{RefusedBy}
 use Rattle.orca_parts.specs.Fits.{ActsAt, CollectsWith, FitsTake, KeepsTurn, OnlyRoom}
-use Rattle.orca_parts.specs.Ready.{FitsEvent, Prepares}
+use Rattle.orca_parts.specs.Ready.{FitsEvent, IsFaultIn, Prepares}
 use Rattle.orca_parts.specs.declared.fault.StepFault.{StepFault}
 use Rattle.orca_parts.specs.declared.fault.StepFault.TheVariants as faults
 use Rattle.orca_parts.specs.declared.insides.Core.{Core}
@@ -52,7 +54,7 @@ use Rattle.orca_parts.specs.Touched.{receivers}
 use Rattle.orca_parts.specs.Away.{is_out}
 use Rattle.orca_parts.proofs.Homes.{home_is}
 use Rattle.orca_parts.proofs.Reserving.{once_each}
-use Rattle.actor_table.specs.Telling.{TableTells}
+use Rattle.actor_table.specs.Telling.{PlaceLies, TableLies, TableTells}
 use Rattle.actor_table.proofs.Telling.{still_told}
 use Rattle.letter_kinds.specs.Telling.{TellsOnly}
 use Rattle.mail_rows.specs.Mail.{first_brought}
@@ -161,8 +163,9 @@ fits_take a m old actors away may room note =
 -- but for room all is the same where the actors, and what is to be heard, are
 pub only_room : (old new : Parts) → new.detector.state ≡ old.detector.state → new.prints.items ≡ old.prints.items → new.objects ≡ old.objects
     → actors_of new.table.slots ≡ actors_of old.table.slots → away_of new.table.slots ≡ away_of old.table.slots → new.notes.items ≡ old.notes.items
-    → TellsOnly (TableTells old.table.slots) [] (TableTells new.table.slots) → OnlyRoom old new
-only_room old new detector prints objects actors away notes told = record {
+    → TellsOnly (TableTells old.table.slots) [] (TableTells new.table.slots) → (TableLies old.table.slots → TableLies new.table.slots)
+    → new.blocks ≡ old.blocks → OnlyRoom old new
+only_room old new detector prints objects actors away notes told lie blocks = record {
   state = λ program options. λ i. record {
     program = program;
     options = options;
@@ -174,14 +177,35 @@ only_room old new detector prints objects actors away notes told = record {
   };
   away = away;
   told = told;
+  lie = lie;
+  blocks = blocks;
 }
+
+-- all of it is, where nothing changed
+pub same_room : (m : Parts) → OnlyRoom m m
+same_room m = record { state = λ p o. refl; away = refl; told = still_told m.table.slots; lie = λ lies. lies; blocks = refl }
+
+pub same_core : (m : Core) → KeepsCore m m
+same_core m = record { alike = record { code = refl; options = refl }; room = same_room m.parts }
+
+-- or another turn was found
+pub found_core : (m : Core) (turn : Turn) (turned : Turned) (stands : Bool)
+    → KeepsCore m (record m { parts = record m.parts { turn = turn; turned = turned }; stands = stands })
+found_core m turn turned stands = record {
+  alike = record { code = refl; options = refl };
+  room = record { state = λ p o. refl; away = refl; told = still_told m.parts.table.slots; lie = λ lies. lies; blocks = refl };
+}
+
+-- own rows lie in blocks still where the places are the same
+pub still_lies : (old new : List Slot) → places_of new ≡ places_of old → TableLies old → TableLies new
+still_lies old new places lies a = subst PlaceLies (sym (same_at (λ x. x.place) new old places a)) (lies a)
 
 -- ---- how the preparing of an event ends
 
 -- the event is not enabled, or its actor's cell is away
 refused : {T : Type 0} (e : Event) (m : Core) → next_in m e ≡ NotEnabled → Prepares {T = T} e m m (Err faults.NotEnabled)
 refused e m off = record {
-  same = record { alike = record { code = refl; options = refl }; room = record { state = λ p o. refl; away = refl; told = still_told m.parts.table.slots } };
+  same = same_core m;
   ok = tt;
   fault = off;
   stands = λ well. well;
@@ -189,7 +213,7 @@ refused e m off = record {
 
 -- it was refused after something was found
 pub refused_in : {T : Type 0} (e : Event) (m mid : Core) → KeepsCore m mid → StandsWell mid → (r : Result T StepFault) (fault : StepFault) → r ≡ Err fault
-    → IsFault (next_in m e) e fault → Prepares e m mid r
+    → IsFaultIn m e fault → Prepares e m mid r
 refused_in e m mid same well r fault is so = subst (Prepares e m mid) (sym is) (record { same = same; ok = tt; fault = so; stands = λ _. well })
 
 -- whether its actor may do it, at home
@@ -211,9 +235,10 @@ module _ (e : Event) (m : Core) (a : ℕ) (its : actor_of e ≡ Some a) where
   place = slot_at m.parts.table.slots a
 
   -- the fault is right where the actor may not do it, or its cell is away
-  pub right_fault : (fault : StepFault) → RefusedBy (may_event e place) fault → IsFault (next_in m e) e fault
+  pub right_fault : (fault : StepFault) → RefusedBy (may_event e place) fault → IsFaultIn m e fault
   right_fault faults.NotEnabled off = not_enabled m e (ap (λ o. option_map_or (λ b. may_event e (slot_at m.parts.table.slots b)) o true) its ∙ off)
   right_fault (faults.ActorsFull b) none = absurd none
+  right_fault (faults.NoRows b) none = absurd none
   right_fault faults.NoMemory none = tt
 
   -- so is that of one of which the table lends no cell
@@ -221,7 +246,7 @@ module _ (e : Event) (m : Core) (a : ℕ) (its : actor_of e ≡ Some a) where
   not_lent none = refused e m (right_fault faults.NotEnabled (not_acting e place none))
 
 module _ {T : Type 0} (e : Event) (m : Core) (parts : Parts) (room : OnlyRoom m.parts parts) (turn : KeepsTurn m.parts parts) where
-  prepares_by : (r : Result T StepFault) → OnOk r (FitsEvent m.options m.code.now e parts) → IfErr r (IsFault (next_in m e) e)
+  prepares_by : (r : Result T StepFault) → OnOk r (FitsEvent m.options m.code.now e parts) → IfErr r (IsFaultIn m e)
       → Prepares e m (record m { parts = parts }) r
   prepares_by r ok fault = record {
     same = record { alike = record { code = refl; options = refl }; room = room };
@@ -235,7 +260,7 @@ module _ {T : Type 0} (e : Event) (m : Core) (parts : Parts) (room : OnlyRoom m.
   prepared {x} fits = prepares_by (Ok x) fits tt
 
   -- it was refused otherwise
-  pub refused_by : (r : Result T StepFault) (fault : StepFault) → r ≡ Err fault → IsFault (next_in m e) e fault → Prepares e m (record m { parts = parts }) r
+  pub refused_by : (r : Result T StepFault) (fault : StepFault) → r ≡ Err fault → IsFaultIn m e fault → Prepares e m (record m { parts = parts }) r
   refused_by r fault is so = subst (Prepares e m (record m { parts = parts })) (sym is) (prepares_by (Err fault) tt so)
 
   -- memory was refused

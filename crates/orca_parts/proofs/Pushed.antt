@@ -7,7 +7,7 @@ use Rattle.letter_kinds.proofs.Telling.{tells_then}
 use Rattle.machine_rules.specs.Actors.{Actors, push_letter}
 use Rattle.actor_table.specs.declared.slot.Slot.{Slot}
 use Rattle.actor_table.specs.Slots.{actors_of, away_of, slot_at}
-use Rattle.actor_table.specs.Telling.{TableTells}
+use Rattle.actor_table.specs.Telling.{TableLies, TableTells}
 use Rattle.actor_table.proofs.Telling.{still_told}
 use Rattle.orca_parts.specs.Letters.{FitLetters, Posts}
 use Rattle.orca_parts.specs.Woken.{IsLowestWoken, lower_of}
@@ -18,6 +18,7 @@ use Rattle.orca_parts.proofs.Waking.{Grows, grows_then, push_grows, still_grows,
 pub record Pushes (names : List ℕ) (become : Actors → Actors) (all : Actors) (start now : List Slot) (lowest : Option ℕ) : Type 0 where
   pub fits : FitLetters names now
   pub told : TellsOnly (TableTells start) [] (TableTells now)
+  pub lie : TableLies start → TableLies now
   pub actors : become (actors_of now) ≡ all
   pub away : away_of now ≡ away_of start
   pub grows : Grows (actors_of start) (actors_of now)
@@ -29,6 +30,7 @@ pub pushes_none : (names : List ℕ) (become : Actors → Actors) (slots : List 
 pushes_none names become slots fits = record {
   fits = fits;
   told = still_told slots;
+  lie = λ lies. lies;
   actors = refl;
   away = refl;
   grows = still_grows (actors_of slots);
@@ -45,6 +47,7 @@ pushes_one to letter rest become all start old new lowest one before does room =
     record {
       fits = rest_fits to letter rest old new before.fits does.actors room;
       told = tells_then (TableTells start) (TableTells old) (TableTells new) [] before.told does.told;
+      lie = λ lies. does.lie (before.lie lies);
       actors = ap become does.actors ∙ before.actors;
       away = does.away ∙ before.away;
       grows = grows_then (actors_of start) (actors_of old) (actors_of new) before.grows goes;
@@ -55,4 +58,4 @@ pushes_one to letter rest become all start old new lowest one before does room =
 pub pushes_all : (names : List ℕ) (become does : Actors → Actors) (start now : List Slot) (lowest : Option ℕ) → become (actors_of now) ≡ actors_of now
     → Pushes names become (does (actors_of start)) start now lowest → Posts does [] start now lowest
 pushes_all names become does start now lowest none pushes =
-    record { actors = sym none ∙ pushes.actors; away = pushes.away; woken = pushes.woken; told = pushes.told }
+    record { actors = sym none ∙ pushes.actors; away = pushes.away; woken = pushes.woken; told = pushes.told; lie = pushes.lie }

@@ -13,7 +13,7 @@ use Rattle.orca_parts.proofs.Homes.{home_stays}
 module _ (options : Options) (program : Program) (m : Parts) where
   pub fits_home : (e : Event) → FitsEvent options program e m → is_out_for (away_of m.table.slots) e ≡ false
   fits_home (Take a) fits = home_stays m.table.slots a fits.cell fits.home
-  fits_home (Go a) fits = home_stays m.table.slots a fits.cell fits.home
+  fits_home (Go a) fits = home_stays m.table.slots a fits.0.cell fits.0.home
   fits_home (Collect a) fits = home_stays m.table.slots a fits.acts.cell fits.acts.home
   fits_home (Leave a) fits = home_stays m.table.slots a fits.acts.cell fits.acts.home
   fits_home (Block a) fits = home_stays m.table.slots a fits.acts.cell fits.acts.home

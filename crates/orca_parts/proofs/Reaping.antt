@@ -95,13 +95,14 @@ none_acked (Some t) goes is = cc
 pub can_reap : (number : ℕ) (members : List ℕ) (letters : List (ℕ × List Amount)) (old : List Slot) (m : Parts)
     → Some members ≡ option_map (λ (t : Token). t.members) (acked_token number m.detector.state) → letters ≡ returned members members old
     → actors_of m.table.slots ≡ actors_of old → AreHome members m.table.slots → FitLetters (receivers letters) m.table.slots
-    → FitsReap number members letters m
-can_reap number members letters old m found is same home fit =
+    → IsStrictlySortedBy nat_cmp members → FitsReap number members letters m
+can_reap number members letters old m found is same home fit rising =
     let its = acked_with members (acked_token number m.detector.state) found in
     record {
       token = its.0;
       acked = its.1;
       its = its.2;
+      rising = rising;
       home = home;
       decs = is ∙ ap (reap_decs members members) (sym same);
       fit = fit;

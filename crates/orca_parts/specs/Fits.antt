@@ -1,5 +1,7 @@
 -- What the state of the machine allows, and for what it has room.
 use Rattle.std.specs.Prelude.{ℕ, ◌≡◌, ◌<◌, true, false, Bool, List, [], ◌∷◌, Option, None, Some, set}
+use Rattle.std.specs.List.Sorted.{IsStrictlySortedBy}
+use Rattle.std.specs.Ordering.{nat_cmp}
 use Rattle.letter_kinds.specs.Letters.{Letter}
 use Rattle.letter_kinds.specs.declared.note.Note.{Note}
 use Rattle.letter_kinds.specs.Detector.{Token, closed_set}
@@ -29,7 +31,7 @@ use Rattle.actor_table.specs.declared.slot.Place.TheVariants.{Home}
 use Rattle.orca_parts.specs.declared.parts.Parts.{Parts}
 use Rattle.orca_parts.specs.Parts.{state_of}
 use Rattle.actor_table.specs.Slots.{actors_of, away_of, slot_at}
-use Rattle.actor_table.specs.Telling.{TableTells}
+use Rattle.actor_table.specs.Telling.{TableLies, TableTells}
 use Rattle.orca_parts.specs.Letters.{FitLetters}
 use Rattle.orca_parts.specs.Reaping.{AreHome}
 use Rattle.orca_parts.specs.Touched.{receivers}
@@ -65,6 +67,7 @@ pub record FitsReap (number : ℕ) (members : List ℕ) (letters : List (ℕ × 
   pub token : Token
   pub acked : acked_token number m.detector.state ≡ Some token
   pub its : token.members ≡ members
+  pub rising : IsStrictlySortedBy nat_cmp members
   pub home : AreHome members m.table.slots
   pub decs : letters ≡ reap_decs members members (actors_of m.table.slots)
   pub fit : FitLetters (receivers letters) m.table.slots
@@ -127,6 +130,8 @@ pub record OnlyRoom (old new : Parts) : Type 0 where
       → state_of program options new ≡ state_of program options old
   pub away : away_of new.table.slots ≡ away_of old.table.slots
   pub told : TellsOnly (TableTells old.table.slots) [] (TableTells new.table.slots)
+  pub lie : TableLies old.table.slots → TableLies new.table.slots
+  pub blocks : new.blocks ≡ old.blocks
 
 -- what was found of a turn stays; memory for a letter may come
 pub record KeepsTurn (old new : Parts) : Type 0 where

@@ -7,7 +7,8 @@ use Rattle.orca_names.specs.declared.options.Options.{Options}
 use Rattle.behaviour_code.specs.declared.code.Program.{Program}
 use Rattle.turn_rules.specs.declared.act.Frame.{Frame}
 use Rattle.letter_kinds.specs.Letters.{Inc}
-use Rattle.letter_kinds.specs.Telling.{TellsNothing, Told}
+use Rattle.letter_kinds.specs.Telling.{TellsOnly, Told}
+use Rattle.orca_parts.specs.Blocks.{AreKept, HasBlocksFor}
 use Rattle.machine_rules.specs.Actors.{push_letter, seat, seat_at}
 use Rattle.turn_rules.specs.Segment.{Turn}
 use Rattle.machine_rules.specs.Cell.{fresh_cell}
@@ -17,7 +18,7 @@ use Rattle.actor_cell.specs.Moves.{Move, Post, Mint, New, Print, End, Rest, act_
 use Rattle.actor_cell.specs.declared.turning.Turned.{Turned}
 use Rattle.actor_cell.specs.Cells.{as_cell}
 use Rattle.actor_cell.specs.Goes.{CanMove, IsTold, new_entries}
-use Rattle.actor_cell.specs.Tells.{told_out}
+use Rattle.actor_cell.specs.Tells.{Tells, told_out}
 use Rattle.actor_table.specs.declared.slot.Slot.{Slot}
 use Rattle.actor_table.specs.declared.slot.Place.TheVariants.{Home}
 use Rattle.actor_table.specs.Slots.{actors_of, slot_at}
@@ -38,11 +39,11 @@ HasRoomOut (Print value) m = vec_len m.prints < vec_capacity m.prints
 HasRoomOut End m = ⊤
 HasRoomOut Rest m = ⊤
 
--- this was found of the turn of the cell, which has a frame, and tells of no row in a block
+-- this was found of the turn of the cell, which has a frame, and tells no more of rows in blocks than it
 abbrev pub IsFoundGo : Options → Program → ℕ → Turn → Turned → Cell → Type 0
 IsFoundGo options program a turn found c =
     IsSomeAnd c.frame (IsTold options program a (as_cell c) turn found.place (act_in found))
-    × TellsNothing (Told (told_out found))
+    × TellsOnly (Tells c) [] (Told (told_out found))
 
 -- this is known of the turn of the cell at home, where it has a frame
 abbrev pub IsKnownGo : Options → Program → Turn → Turned → Slot → Type 0
@@ -61,7 +62,13 @@ pub record FitsGo (options : Options) (program : Program) (a : ℕ) (found : Tur
   pub objects : length m.turn.made ≤ cell.heap.spare
   pub entries : new_entries (act_in found) cell.foreign.entries ≤ cell.foreign.spare
   pub room : HasRoomOut (act_in found) m
-  pub untold : TellsNothing (Told (told_out found))
+
+-- what was found of a turn tells of rows in the blocks of their objects, and there are blocks for those
+-- that it makes, and memory to tell which
+pub record FitsPlaces (m : Parts) : Type 0 where
+  pub kept : AreKept m.blocks (Told (told_out m.turned))
+  pub blocks : HasBlocksFor (act_in m.turned) m
+  pub room : 0 < length m.blocks → length m.turn.made ≤ vec_capacity m.placed
 
 -- the actor's counts and serials allow it, and it holds nothing of the actor that is made next
 pub record CountsAllow (a : ℕ) (act : Move) (parts : Parts) (c : Cell) : Type 0 where

@@ -8,7 +8,7 @@ use Rattle.letter_kinds.specs.Telling.{TellsOnly}
 use Rattle.machine_rules.specs.Actors.{Actors, seat_at}
 use Rattle.actor_table.specs.declared.slot.Slot.{Slot}
 use Rattle.actor_table.specs.Slots.{actors_of, away_of, slot_at}
-use Rattle.actor_table.specs.Telling.{TableTells}
+use Rattle.actor_table.specs.Telling.{TableLies, TableTells}
 use Rattle.orca_parts.specs.Woken.{IsLowestWoken}
 
 -- how many letters go to an actor, where one goes to each of these
@@ -25,11 +25,12 @@ abbrev pub FitLetters : List ℕ → List Slot → Type 0
 FitLetters names slots = (a : ℕ) → is_some (seat_at (actors_of slots) a) ≡ true
     → letters_to a names ≤ (slot_at slots a).mail.spare
 
--- this becomes of the actors, the same cells are away, the lowest actor that wakes is told, and of rows
--- in blocks nothing is told but what was told before and these
+-- this becomes of the actors, the same cells are away, the lowest actor that wakes is told; of rows in
+-- blocks nothing is told but what was told before and these, and own rows that lay in blocks do
 pub record Posts (become : Actors → Actors) (more : List (Thing × Lying)) (old new : List Slot)
     (lowest : Option ℕ) : Type 0 where
   pub actors : actors_of new ≡ become (actors_of old)
   pub away : away_of new ≡ away_of old
   pub woken : IsLowestWoken (actors_of old) (actors_of new) lowest
   pub told : TellsOnly (TableTells old) more (TableTells new)
+  pub lie : TableLies old → TableLies new

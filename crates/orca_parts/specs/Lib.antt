@@ -1,5 +1,6 @@
 pub mod Awaiting
 pub mod Away
+pub mod Blocks
 pub mod Core
 pub mod Faults
 pub mod Fits
@@ -7,6 +8,7 @@ pub mod Founds
 pub mod Goes
 pub mod Letters
 pub mod Parts
+pub mod Placing
 pub mod Ready
 pub mod Reaping
 pub mod Steps

@@ -2,7 +2,8 @@
 
 ghost use Rattle.std.specs.Prelude.{◌≡◌, true, IfErr, OnOk};
 ghost use Rattle.event_rule.specs.declared.event.Event.TheVariants.{Collect as collect_event};
-ghost use Rattle.letter_kinds.specs.Telling.{TellsNothing};
+ghost use Rattle.letter_kinds.specs.Telling.{HoldsTold};
+ghost use Rattle.row_store.specs.Words.{SameWords};
 ghost use Rattle.actor_table.specs.Telling.{TableTells};
 ghost use Rattle.actor_table.specs.Slots.{may_event, slot_at};
 ghost use Rattle.actor_cell.specs.declared.cell.Cell.{Cell};
@@ -10,6 +11,7 @@ ghost use Rattle.actor_cell.specs.Sweeps.{KnowsOthersOnly, sweep_of};
 ghost use Rattle.actor_table.specs.declared.slot.Place.TheVariants.{Home};
 ghost use Rattle.orca_parts.specs.Faults.{RefusedBy};
 ghost use Rattle.orca_parts.specs.Fits.{ActsAt, FitsCollect, IsKnownSweep};
+ghost use Rattle.orca_parts.specs.Blocks.{BlocksFit};
 ghost use Rattle.orca_parts.specs.Core.{HasFound};
 ghost use Rattle.orca_parts.specs.Ready.{Applies, Prepares};
 
@@ -21,26 +23,29 @@ use actor_table::{ActorTable, Collect};
 use event_rule::Event;
 use orca_names::{ActorName, Trace};
 use plain_list::Listed;
-use row_store::NoBlocks;
+use row_blocks::give_back_freed;
+use row_store::RowWords;
 use std::alloc::Global;
 use std::mem;
 
 // What the actor's collection does, where it is not known.
-fn find_collect(
+fn find_collect<W: RowWords>(
     alloc: Global,
     trace: Trace,
     known: bool,
     table: &ActorTable,
     sweep: &mut Sweep,
     a: ActorName,
+    words: &mut W,
 ) -> Result<(), StepFault>
     requires others { (c : Cell) → (slot_at table.now.slots a).place ≡ Home c → c.heap.owner ≡ a
         → KnowsOthersOnly c }
-    requires untold { TellsNothing (TableTells table.now.slots) }
+    requires hold { HoldsTold (W.known words.old) (TableTells table.now.slots) }
     requires known { known ≡ true → IsKnownSweep trace sweep.old (slot_at table.now.slots a) }
     ensures ok { OnOk result (ActsAt (collect_event a) (slot_at table.now.slots a)
         (λ c. (c.heap.owner ≡ a) × (sweep.new ≡ sweep_of trace c))) }
     ensures fault { IfErr result (RefusedBy (may_event (collect_event a) (slot_at table.now.slots a))) }
+    ensures words { SameWords W.known W.places W.beside words.old words.new }
 {
     let Some(cell) = table.acting(a, &Event::Collect(a)) else {
         return Err(StepFault::NotEnabled);
@@ -48,7 +53,7 @@ fn find_collect(
     if known {
         return Ok(());
     }
-    *sweep = cell.find_collect(alloc, trace, &mut NoBlocks::default())?;
+    *sweep = cell.find_collect(alloc, trace, words)?;
     Ok(())
 }
 
@@ -58,21 +63,31 @@ fn find_collect(
 /// # Errors
 /// `NotEnabled` exactly where the actor may not collect, or its cell is away. `NoMemory` where memory
 /// was refused.
-#[tactic(auto, using(crate::proofs::Preparing::no_memory, crate::proofs::Preparing::only_room))]
-pub(crate) fn prepare_collect(
+#[tactic(auto, using(crate::proofs::Preparing::no_memory, crate::proofs::Preparing::only_room, crate::proofs::Preparing::still_lies))]
+pub(crate) fn prepare_collect<W: RowWords>(
     alloc: Global,
     m: &mut Core<'_>,
     known: bool,
     a: ActorName,
+    words: &mut W,
 ) -> Result<(), StepFault>
     requires others { (c : Cell) → (slot_at m.old.parts.table.slots a).place ≡ Home c → c.heap.owner ≡ a
         → KnowsOthersOnly c }
-    requires untold { TellsNothing (TableTells m.old.parts.table.slots) }
+    requires hold { HoldsTold (W.known words.old) (TableTells m.old.parts.table.slots) }
     requires known { known ≡ true → HasFound (collect_event a) m.old }
-    ensures { Prepares (collect_event a) m.old m.new result }
+    ensures prepares { Prepares (collect_event a) m.old m.new result }
+    ensures words { SameWords W.known W.places W.beside words.old words.new }
 {
     let trace = m.options.trace;
-    find_collect(alloc, trace, known, &m.parts.table, &mut m.parts.sweep, a)?;
+    find_collect(
+        alloc,
+        trace,
+        known,
+        &m.parts.table,
+        &mut m.parts.sweep,
+        a,
+        words,
+    )?;
     reserve_each(&mut m.parts.table, m.parts.sweep.plan.back.as_slice())?;
     Ok(())
 }
@@ -80,10 +95,19 @@ pub(crate) fn prepare_collect(
 /// The actor's collection is done as it was found, and the lowest to whom a letter goes is told. It
 /// takes no memory.
 pub(crate) fn apply_collect(alloc: Global, m: &mut Core<'_>, a: ActorName) -> Option<ActorName>
-    requires { FitsCollect m.old.options.trace a m.old.parts.sweep m.old.parts }
+    requires fits { FitsCollect m.old.options.trace a m.old.parts.sweep m.old.parts }
+    requires blocks { BlocksFit m.old.options.trace m.old.parts.blocks m.old.parts.table.slots }
     ensures { Applies (collect_event a) m.old m.new result }
 {
     m.stands = false;
+    let Some(cell) = m.parts.table.cell(a) else {
+        unreachable!();
+    };
+    give_back_freed(
+        &mut m.parts.blocks,
+        &cell.heap,
+        m.parts.sweep.plan.free.as_slice(),
+    );
     let change = Collect {
         found: &m.parts.sweep,
         trace: m.options.trace,

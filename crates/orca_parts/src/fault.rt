@@ -16,6 +16,9 @@ pub enum StepFault {
     /// The actor would make one more, and as many as there may be are made.
     #[error("all actors are made")]
     ActorsFull { actor: ActorName },
+    /// The actor's turn would make more rows than there are free blocks.
+    #[error("all blocks for rows are taken")]
+    NoRows { actor: ActorName },
     /// Memory was refused.
     #[error("out of memory")]
     NoMemory,

@@ -19,23 +19,27 @@ ghost use Rattle.actor_cell.specs.Goes.{out_of};
 ghost use Rattle.actor_cell.specs.Moves.{act_in};
 ghost use Rattle.letter_kinds.specs.Letters.{App as app, Inc as inc};
 ghost use Rattle.letter_kinds.specs.Load.{as_load};
-ghost use Rattle.letter_kinds.specs.Telling.{TellsNothing, TellsOnly};
-ghost use Rattle.actor_table.specs.Telling.{TableTells};
+ghost use Rattle.letter_kinds.specs.Telling.{HoldsTold, TellsOnly, Told};
+ghost use Rattle.actor_table.specs.Telling.{TableLies, TableTells};
 ghost use Rattle.orca_parts.specs.Away.{KeepsAway};
+ghost use Rattle.row_store.specs.Words.{SameWords};
+ghost use Rattle.row_blocks.specs.Blocks.{MayPutFree};
+ghost use Rattle.orca_parts.specs.Blocks.{AreKept, BlocksFit};
 ghost use Rattle.orca_parts.specs.Awaiting.{AwaitsMinted, IsAwaited};
 ghost use Rattle.orca_parts.specs.Faults.{RefusedBy};
 ghost use Rattle.orca_parts.specs.Fits.{KeepsTurn, OnlyRoom};
-ghost use Rattle.orca_parts.specs.Goes.{CountsAllow, FitsGo, HasRoomForOne, HasRoomOut, IsFoundGo, given};
+ghost use Rattle.orca_parts.specs.Goes.{CountsAllow, FitsGo, FitsPlaces, HasRoomForOne, HasRoomOut, IsFoundGo, given};
 ghost use Rattle.orca_parts.specs.Core.{HasFound, StandsWell};
 ghost use Rattle.orca_parts.specs.Letters.{Posts};
 ghost use Rattle.orca_parts.specs.Parts.{state_of};
-ghost use Rattle.orca_parts.specs.Ready.{Applies, Prepares};
+ghost use Rattle.orca_parts.specs.Ready.{Applies, Lies, Prepares};
 ghost use Rattle.orca_parts.specs.Woken.{IsLowestWoken};
 
 use crate::fault::StepFault;
 use crate::insides::Core;
 use crate::letters::post;
 use crate::parts::Parts;
+use crate::placing::{lacks_blocks, place_made, reserve_placed};
 use actor_cell::{Cell, Doing, Turned};
 use actor_table::{ActorTable, Go};
 use behaviour_check::Checked;
@@ -44,7 +48,7 @@ use event_rule::Event;
 use letter_kinds::Letter;
 use mail_rows::MailRow;
 use orca_names::{ACTORS_LIMIT, ActorName, NoMemory};
-use row_store::NoBlocks;
+use row_store::RowWords;
 use std::alloc::Global;
 
 // Takes the memory for what the act that was found gives out.
@@ -92,31 +96,43 @@ fn prepare_turn(alloc: Global, m: &mut Core<'_>, a: ActorName) -> Result<(), Ste
     requires few { length m.old.parts.turn.made ≤ BODY_LIMIT }
     requires found { HasCell (slot_at m.old.parts.table.slots a)
         (IsFoundGo m.old.options m.old.code.now a m.old.parts.turn m.old.parts.turned) }
-    ensures { Prepares (go_event a) m.old m.new result }
+    requires kept { AreKept m.old.parts.blocks (TableTells m.old.parts.table.slots) }
+    ensures prepares { Prepares (go_event a) m.old m.new result }
+    ensures sends { told_out m.new.parts.turned ≡ told_out m.old.parts.turned }
 {
     if makes(&m.parts.turned) && m.parts.table.len() >= ACTORS_LIMIT {
         return Err(StepFault::ActorsFull { actor: a });
     }
+    if lacks_blocks(&m.parts) {
+        return Err(StepFault::NoRows { actor: a });
+    }
     let change = Go {
         turn: &m.parts.turn,
         found: &m.parts.turned,
-        blocks: &[],
         name: m.parts.table.next_name(),
         weight: m.options.weight,
+        blocks: &[],
     };
     m.parts.table.reserve(a, &change)?;
     reserve_out(alloc, &mut m.parts)?;
+    reserve_placed(&mut m.parts)?;
     Ok(())
 }
 
 // Finds the actor's turn, where it is not known. Where what was found last stands and awaits a letter of
 // the actor, its turn isn't run again.
 #[inline(always)]
-fn find_turn(alloc: Global, m: &mut Core<'_>, known: bool, a: ActorName) -> Result<(), StepFault>
+fn find_turn<W: RowWords>(
+    alloc: Global,
+    m: &mut Core<'_>,
+    known: bool,
+    a: ActorName,
+    words: &mut W,
+) -> Result<(), StepFault>
     requires serials { (c : a_cell) → (slot_at m.old.parts.table.slots a).place ≡ Home c
         → c.heap.next + BODY_LIMIT < 2 ^ 64 }
     requires stands { StandsWell m.old }
-    requires untold { TellsNothing (TableTells m.old.parts.table.slots) }
+    requires hold { HoldsTold (W.known words.old) (TableTells m.old.parts.table.slots) }
     requires known { known ≡ true → HasFound (go_event a) m.old }
     ensures same { m.new ≡ record m.old {
       parts = record m.old.parts { turn = m.new.parts.turn; turned = m.new.parts.turned };
@@ -127,6 +143,7 @@ fn find_turn(alloc: Global, m: &mut Core<'_>, known: bool, a: ActorName) -> Resu
         (IsFoundGo m.old.options m.old.code.now a m.new.parts.turn m.new.parts.turned)) }
     ensures few { OnOk result (length m.new.parts.turn.made ≤ BODY_LIMIT) }
     ensures fault { IfErr result (RefusedBy (may_event (go_event a) (slot_at m.old.parts.table.slots a))) }
+    ensures words { SameWords W.known W.places W.beside words.old words.new }
 {
     // The behaviours of a checked program are short.
     let _program = m.code.program();
@@ -143,20 +160,12 @@ fn find_turn(alloc: Global, m: &mut Core<'_>, known: bool, a: ActorName) -> Resu
     let found = &mut m.parts.turned;
     if stands {
         if let Some(letter) = found.awaits(a) {
-            cell.find_again(
-                alloc,
-                code,
-                options,
-                turn,
-                letter,
-                found,
-                &mut NoBlocks::default(),
-            )?;
+            cell.find_again(alloc, code, options, turn, letter, found, words)?;
             m.stands = true;
             return Ok(());
         }
     }
-    cell.find_go(alloc, code, options, turn, found, &mut NoBlocks::default())?;
+    cell.find_go(alloc, code, options, turn, found, words)?;
     m.stands = true;
     Ok(())
 }
@@ -166,22 +175,27 @@ fn find_turn(alloc: Global, m: &mut Core<'_>, known: bool, a: ActorName) -> Resu
 ///
 /// # Errors
 /// `NotEnabled` exactly where the actor has no frame, or its cell is away; `ActorsFull` exactly where the
-/// act would make an actor too many; `NoMemory` where memory was refused.
+/// act would make an actor too many; `NoRows` exactly where, but for that, there are blocks, and the turn
+/// would make more rows than are free; `NoMemory` where memory was refused.
 #[inline(always)]
-pub(crate) fn prepare_go(
+pub(crate) fn prepare_go<W: RowWords>(
     alloc: Global,
     m: &mut Core<'_>,
     known: bool,
     a: ActorName,
+    words: &mut W,
 ) -> Result<(), StepFault>
     requires serials { (c : a_cell) → (slot_at m.old.parts.table.slots a).place ≡ Home c
         → c.heap.next + BODY_LIMIT < 2 ^ 64 }
     requires stands { StandsWell m.old }
-    requires untold { TellsNothing (TableTells m.old.parts.table.slots) }
+    requires kept { AreKept m.old.parts.blocks (TableTells m.old.parts.table.slots) }
+    requires hold { HoldsTold (W.known words.old) (TableTells m.old.parts.table.slots) }
     requires known { known ≡ true → HasFound (go_event a) m.old }
-    ensures { Prepares (go_event a) m.old m.new result }
+    ensures prepares { Prepares (go_event a) m.old m.new result }
+    ensures words { SameWords W.known W.places W.beside words.old words.new }
+    ensures hold { OnOk result (HoldsTold (W.known words.new) (Told (told_out m.new.parts.turned))) }
 {
-    find_turn(alloc, m, known, a)?;
+    find_turn(alloc, m, known, a, words)?;
     prepare_turn(alloc, m, a)
 }
 
@@ -209,6 +223,7 @@ fn make(alloc: Global, code: &Checked, weight: u32, table: &mut ActorTable, kind
     ensures away { KeepsAway (away_of table.old.slots) (away_of table.new.slots) }
     ensures woken { IsLowestWoken (actors_of table.old.slots) (actors_of table.new.slots) (Some result) }
     ensures told { TellsOnly (TableTells table.old.slots) [] (TableTells table.new.slots) }
+    ensures lie { TableLies table.old.slots → TableLies table.new.slots }
 {
     let name = table.next_name();
     let cell = Cell::fresh(alloc, code, name, kind, u64::from(weight));
@@ -267,6 +282,8 @@ fn give_out(alloc: Global, code: &Checked, weight: u32, parts: &mut Parts) -> Op
     ensures woken { IsLowestWoken (actors_of parts.old.table.slots) (actors_of parts.new.table.slots) result }
     ensures told { TellsOnly (TableTells parts.old.table.slots) (told_out parts.old.turned)
         (TableTells parts.new.table.slots) }
+    ensures lie { TableLies parts.old.table.slots → TableLies parts.new.table.slots }
+    ensures blocks { (parts.new.blocks ≡ parts.old.blocks) × (parts.new.placed ≡ parts.old.placed) }
 {
     match &parts.turned.doing {
         Doing::Post { to, behaviour } => {
@@ -299,20 +316,34 @@ fn give_out(alloc: Global, code: &Checked, weight: u32, parts: &mut Parts) -> Op
 
 /// What was found of the actor's turn is done, and the actor that gets a letter or is made is told. It
 /// takes no memory.
-pub(crate) fn apply_go(alloc: Global, m: &mut Core<'_>, a: ActorName) -> Option<ActorName>
+pub(crate) fn apply_go<W: RowWords>(
+    alloc: Global,
+    m: &mut Core<'_>,
+    a: ActorName,
+    words: &mut W,
+) -> Option<ActorName>
     requires light { m.old.options.weight ≤ 65536 }
     requires fits { FitsGo m.old.options m.old.code.now a m.old.parts.turned m.old.parts }
+    requires places { FitsPlaces m.old.parts }
     requires can { (c : a_cell) → (slot_at m.old.parts.table.slots a).place ≡ Home c
         → CountsAllow a (act_in m.old.parts.turned) m.old.parts c }
     requires objects { m.old.parts.objects + BODY_LIMIT < 2 ^ 64 }
-    ensures { Applies (go_event a) m.old m.new result }
+    requires blocks { BlocksFit m.old.options.trace m.old.parts.blocks m.old.parts.table.slots }
+    requires hold { HoldsTold (W.known words.old) (TableTells m.old.parts.table.slots) }
+    requires found { HoldsTold (W.known words.old) (Told (told_out m.old.parts.turned)) }
+    requires put { MayPutFree m.old.parts.blocks (W.places words.old) }
+    ensures applies { Applies (go_event a) m.old m.new result }
+    ensures lies { Lies (W.known words.new) (go_event a) m.old m.new }
+    ensures places { W.places words.new ≡ W.places words.old }
+    ensures beside { W.beside words.new ≡ W.beside words.old }
 {
+    place_made(&mut m.parts, a, words);
     let change = Go {
         turn: &m.parts.turn,
         found: &m.parts.turned,
-        blocks: &[],
         name: m.parts.table.next_name(),
         weight: m.options.weight,
+        blocks: m.parts.placed.as_slice(),
     };
     m.parts.table.change(m.code, a, &change);
     give_out(alloc, m.code, m.options.weight, &mut m.parts)

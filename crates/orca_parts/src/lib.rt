@@ -12,6 +12,7 @@ mod insides;
 mod leaves;
 mod letters;
 mod parts;
+mod placing;
 mod ready;
 mod reaps;
 mod scans;

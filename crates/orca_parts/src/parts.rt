@@ -2,6 +2,7 @@
 
 use actor_cell::{Sweep, Turned};
 use actor_table::ActorTable;
+use block_table::BlockTable;
 use cycle_detect::{Detector, Token};
 use letter_kinds::{Amounts, Note};
 use orca_names::{ActorName, Value};
@@ -19,10 +20,14 @@ pub struct Parts {
     pub prints: Vec<Value>,
     /// How many objects were ever made.
     pub objects: u64,
+    /// Which object has which block; there is none where rows lie at hand.
+    pub blocks: BlockTable,
     /// What the turn left.
     pub turn: Turn,
     /// Where the turn stopped, and what the actor does there.
     pub turned: Turned,
+    /// The blocks of the rows that the turn made, once they lie there.
+    pub placed: Vec<u32>,
     /// What the collection frees, gives back and forgets.
     pub sweep: Sweep,
     /// What the event gives back: to each of these owners goes a decrement of its things.

@@ -7,7 +7,8 @@ ghost use Rattle.event_rule.specs.declared.event.Event.TheVariants.{Reap as reap
 ghost use Rattle.letter_kinds.specs.Telling.{TellsOnly};
 ghost use Rattle.machine_rules.specs.Detect.{empty_seats, reap_decs};
 ghost use Rattle.actor_table.specs.Slots.{actors_of, away_of};
-ghost use Rattle.actor_table.specs.Telling.{TableTells};
+ghost use Rattle.actor_table.specs.Telling.{TableLies, TableTells};
+ghost use Rattle.orca_parts.specs.Blocks.{BlocksFit};
 ghost use Rattle.orca_parts.specs.Fits.{FitsReap, without_all};
 ghost use Rattle.orca_parts.specs.Letters.{FitLetters};
 ghost use Rattle.orca_parts.specs.Ready.{Applies, Prepares};
@@ -16,6 +17,7 @@ ghost use Rattle.orca_parts.specs.Reaping.{AckedAreHome, AreHome};
 use crate::fault::StepFault;
 use crate::insides::Core;
 use crate::letters::{push_decs, reserve_all};
+use crate::placing::give_back_each;
 use actor_table::ActorTable;
 use letter_kinds::Amounts;
 use orca_names::{ActorName, NoMemory};
@@ -50,7 +52,7 @@ fn letters_outside(
 /// # Errors
 /// `NotEnabled` exactly where no open token of this number is acknowledged by all its members, and
 /// `NoMemory` where memory was refused.
-#[tactic(auto, using(crate::proofs::Preparing::no_memory, crate::proofs::Preparing::only_room, crate::proofs::Reaping::none_acked))]
+#[tactic(auto, using(crate::proofs::Preparing::no_memory, crate::proofs::Preparing::only_room, crate::proofs::Preparing::still_lies, crate::proofs::Reaping::none_acked))]
 pub(crate) fn prepare_reap(alloc: Global, m: &mut Core<'_>, number: u64) -> Result<(), StepFault>
     requires home { AckedAreHome number m.old.parts.detector.state m.old.parts.table.slots }
     ensures { Prepares (reap_event number) m.old m.new result }
@@ -73,6 +75,7 @@ fn clear_all(alloc: Global, table: &mut ActorTable, members: &[ActorName])
     ensures room { (names : List ℕ) → FitLetters names table.old.slots
         → FitLetters names table.new.slots }
     ensures told { TellsOnly (TableTells table.old.slots) [] (TableTells table.new.slots) }
+    ensures lie { TableLies table.old.slots → TableLies table.new.slots }
 {
     for member in members {
         table.clear(alloc, *member);
@@ -82,10 +85,16 @@ fn clear_all(alloc: Global, table: &mut ActorTable, members: &[ActorName])
 /// The members of the token go, and what they held outside goes back; the lowest to whom a letter goes
 /// is told. It takes no memory.
 pub(crate) fn apply_reap(alloc: Global, m: &mut Core<'_>, number: u64) -> Option<ActorName>
-    requires { FitsReap number m.old.parts.members.items m.old.parts.letters.items m.old.parts }
+    requires fits { FitsReap number m.old.parts.members.items m.old.parts.letters.items m.old.parts }
+    requires blocks { BlocksFit m.old.options.trace m.old.parts.blocks m.old.parts.table.slots }
     ensures { Applies (reap_event number) m.old m.new result }
 {
     m.stands = false;
+    give_back_each(
+        &mut m.parts.blocks,
+        &m.parts.table,
+        m.parts.members.as_slice(),
+    );
     let letters = mem::replace(&mut m.parts.letters, Vec::new(alloc));
     clear_all(alloc, &mut m.parts.table, m.parts.members.as_slice());
     let woken = push_decs(&mut m.parts.table, letters);

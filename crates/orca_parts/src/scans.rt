@@ -8,7 +8,7 @@ ghost use Rattle.letter_kinds.specs.Telling.{TellsOnly};
 ghost use Rattle.machine_rules.specs.Detect.{ask_all};
 ghost use Rattle.actor_table.specs.Changes.{OnlyTableRoom};
 ghost use Rattle.actor_table.specs.Slots.{actors_of, away_of};
-ghost use Rattle.actor_table.specs.Telling.{TableTells};
+ghost use Rattle.actor_table.specs.Telling.{TableLies, TableTells};
 ghost use Rattle.cycle_detect.specs.declared.detector.TheConstants.{TOKENS_LIMIT};
 ghost use Rattle.orca_parts.specs.Fits.{CanOpenThen, CanScan};
 ghost use Rattle.orca_parts.specs.Letters.{FitLetters, Posts};
@@ -38,7 +38,7 @@ fn reserve_asks(table: &mut ActorTable, members: &[ActorName]) -> Result<(), NoM
 
 /// The token that the largest closed set becomes, if it has members, and the memory to open it and to
 /// ask them.
-#[tactic(auto, using(crate::proofs::Asking::opens_then))]
+#[tactic(auto, using(crate::proofs::Asking::opens_then, crate::proofs::Preparing::still_lies))]
 fn prepare_open(
     alloc: Global,
     table: &mut ActorTable,
@@ -48,6 +48,7 @@ fn prepare_open(
     ensures actors { actors_of table.new.slots ≡ actors_of table.old.slots }
     ensures away { away_of table.new.slots ≡ away_of table.old.slots }
     ensures told { TellsOnly (TableTells table.old.slots) [] (TableTells table.new.slots) }
+    ensures lie { TableLies table.old.slots → TableLies table.new.slots }
     ensures state { detector.new.state ≡ detector.old.state }
     ensures ok { IfOk result (λ token. CanOpenThen token table.new.slots detector.new) }
 {

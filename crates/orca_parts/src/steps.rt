@@ -1,10 +1,13 @@
 // Events of all kinds, prepared and done.
 
-ghost use Rattle.std.specs.Prelude.{◌≡◌, ◌≤◌, true};
-ghost use Rattle.letter_kinds.specs.Telling.{TellsNothing};
+ghost use Rattle.std.specs.Prelude.{◌≡◌, ◌≤◌, true, OnOk};
+ghost use Rattle.letter_kinds.specs.Telling.{HoldsTold, Told};
+ghost use Rattle.row_store.specs.Words.{SameWords};
+ghost use Rattle.row_blocks.specs.Blocks.{MayPutFree};
+ghost use Rattle.orca_parts.specs.Blocks.{AreKept, BlocksFit};
 ghost use Rattle.actor_table.specs.Telling.{TableTells};
 ghost use Rattle.orca_parts.specs.Core.{HasFound, StandsWell};
-ghost use Rattle.orca_parts.specs.Ready.{Applies, FitsEvent, Prepares};
+ghost use Rattle.orca_parts.specs.Ready.{Applies, FitsEvent, Lies, Prepares, told_first};
 ghost use Rattle.orca_parts.specs.Steps.{CanStep, ReapsAtHome};
 
 use crate::blocks::{apply_block, prepare_block};
@@ -19,6 +22,7 @@ use crate::scans::{apply_scan, prepare_scan};
 use crate::takes::{apply_take, prepare_take};
 use event_rule::Event;
 use orca_names::ActorName;
+use row_store::RowWords;
 use std::alloc::Global;
 
 /// Finds what the event does, and takes all memory for it. Nothing changes but room. Where what was found
@@ -27,20 +31,30 @@ use std::alloc::Global;
 ///
 /// # Errors
 /// `NotEnabled` exactly where the event is not enabled, or is one of an actor whose cell is away;
-/// `ActorsFull` exactly where it would make an actor too many; `NoMemory` where memory was refused.
+/// `ActorsFull` exactly where it would make an actor too many; `NoRows` exactly where, but for that, there
+/// are blocks and it would make more rows than are free; `NoMemory` where memory was refused.
 #[inline(always)]
-pub fn prepare(alloc: Global, m: &mut Core<'_>, e: &Event, known: bool) -> Result<(), StepFault>
+pub fn prepare<W: RowWords>(
+    alloc: Global,
+    m: &mut Core<'_>,
+    e: &Event,
+    known: bool,
+    words: &mut W,
+) -> Result<(), StepFault>
     requires can { CanStep m.old.options m.old.code.now m.old.parts e.now }
     requires home { ReapsAtHome e.now m.old.parts }
     requires known { known ≡ true → HasFound e.now m.old }
     requires stands { StandsWell m.old }
-    requires untold { TellsNothing (TableTells m.old.parts.table.slots) }
-    ensures { Prepares e.now m.old m.new result }
+    requires kept { AreKept m.old.parts.blocks (TableTells m.old.parts.table.slots) }
+    requires hold { HoldsTold (W.known words.old) (TableTells m.old.parts.table.slots) }
+    ensures prepares { Prepares e.now m.old m.new result }
+    ensures words { SameWords W.known W.places W.beside words.old words.new }
+    ensures hold { OnOk result (HoldsTold (W.known words.new) (Told (told_first e.now m.new.parts))) }
 {
     match *e {
         Event::Take(actor) => prepare_take(m, actor),
-        Event::Go(actor) => prepare_go(alloc, m, known, actor),
-        Event::Collect(actor) => prepare_collect(alloc, m, known, actor),
+        Event::Go(actor) => prepare_go(alloc, m, known, actor, words),
+        Event::Collect(actor) => prepare_collect(alloc, m, known, actor, words),
         Event::Leave(actor) => prepare_leave(alloc, m, actor),
         Event::Block(actor) => prepare_block(alloc, m, actor),
         Event::Hear => prepare_hear(m),
@@ -49,17 +63,30 @@ pub fn prepare(alloc: Global, m: &mut Core<'_>, e: &Event, known: bool) -> Resul
     }
 }
 
-/// The event that was prepared is done, and the lowest actor that it wakes is told. It takes no memory.
+/// The event that was prepared is done, and the lowest actor that it wakes is told. The rows that a turn
+/// makes are put into blocks, where there are blocks. It takes no memory.
 #[inline(always)]
-pub fn apply(alloc: Global, m: &mut Core<'_>, e: Event) -> Option<ActorName>
+pub fn apply<W: RowWords>(
+    alloc: Global,
+    m: &mut Core<'_>,
+    e: Event,
+    words: &mut W,
+) -> Option<ActorName>
     requires light { m.old.options.weight ≤ 65536 }
     requires fits { FitsEvent m.old.options m.old.code.now e m.old.parts }
     requires can { CanStep m.old.options m.old.code.now m.old.parts e }
-    ensures { Applies e m.old m.new result }
+    requires blocks { BlocksFit m.old.options.trace m.old.parts.blocks m.old.parts.table.slots }
+    requires hold { HoldsTold (W.known words.old) (TableTells m.old.parts.table.slots) }
+    requires found { HoldsTold (W.known words.old) (Told (told_first e m.old.parts)) }
+    requires put { MayPutFree m.old.parts.blocks (W.places words.old) }
+    ensures applies { Applies e m.old m.new result }
+    ensures lies { Lies (W.known words.new) e m.old m.new }
+    ensures places { W.places words.new ≡ W.places words.old }
+    ensures beside { W.beside words.new ≡ W.beside words.old }
 {
     match e {
         Event::Take(actor) => apply_take(m, actor),
-        Event::Go(actor) => apply_go(alloc, m, actor),
+        Event::Go(actor) => apply_go(alloc, m, actor, words),
         Event::Collect(actor) => apply_collect(alloc, m, actor),
         Event::Leave(actor) => apply_leave(alloc, m, actor),
         Event::Block(actor) => apply_block(m, actor),

@@ -26,4 +26,5 @@ EndsSo ends.NoMemory s entries budget = ⊤
 abbrev pub IsEndOf : StepFault → End → Type 0
 IsEndOf faults.NotEnabled end = ⊥
 IsEndOf (faults.ActorsFull actor) end = end ≡ ends.Full actor
+IsEndOf (faults.NoRows actor) end = ⊥
 IsEndOf faults.NoMemory end = end ≡ ends.NoMemory

@@ -1,6 +1,6 @@
 // One worker goes on until a run ends.
 
-ghost use Rattle.std.specs.Prelude.{◌≡◌, ◌≢◌, ◌<◌, ◌≤◌, ◌+◌, ◌++◌, ◌∷◌, [], length, IfErr, OnErr, OnOk};
+ghost use Rattle.std.specs.Prelude.{◌≡◌, ◌≢◌, ◌<◌, ◌≤◌, ◌+◌, ◌++◌, ◌∷◌, [], ℕ, length, IfErr, OnErr, OnOk};
 ghost use Rattle.orca_names.specs.declared.limits.TheConstants.{BOOK_LIMIT};
 ghost use Rattle.event_rule.specs.Runs.{Goes};
 ghost use Rattle.machine_rules.specs.Next.{next};
@@ -51,13 +51,14 @@ fn step(alloc: Global, orca: &mut Orca<'_>, book: &mut Book, e: &Event) -> Resul
 
 /// How a run ends whose first enabled event is refused.
 fn end_of(fault: StepFault) -> End
-    requires { fault ≢ StepFault.NotEnabled }
+    requires enabled { fault ≢ StepFault.NotEnabled }
+    requires rows { (actor : ℕ) → fault ≢ StepFault.NoRows actor }
     ensures { IsEndOf fault result }
 {
     match fault {
         StepFault::ActorsFull { actor } => End::Full { actor },
         StepFault::NoMemory => End::NoMemory,
-        StepFault::NotEnabled => unreachable!(),
+        StepFault::NotEnabled | StepFault::NoRows { .. } => unreachable!(),
     }
 }
 

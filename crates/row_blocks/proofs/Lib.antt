@@ -1,3 +1,3 @@
-mod Placed
-mod GivenBack
-mod Owning
+pub mod Placed
+pub mod GivenBack
+pub mod Owning

@@ -65,6 +65,7 @@ fn step(alloc: Global, orca: &mut Orca<'_>, e: &Event) -> Result<(), NoMemory>
         Err(StepFault::NoMemory) => Err(NoMemory),
         Err(StepFault::NotEnabled) => unreachable!(),
         Err(StepFault::ActorsFull { actor: _ }) => unreachable!(),
+        Err(StepFault::NoRows { actor: _ }) => unreachable!(),
     }
 }
 

@@ -4,8 +4,13 @@ use Rattle.event_rule.specs.Runs.{Goes}
 use Rattle.machine_rules.specs.Next.{next}
 use Rattle.picture_rules.specs.Pictures.{heard}
 use Rattle.picture_rules.specs.Words.{text_of_lines}
-use Rattle.book_picture.proofs.Events.{keeps_program, told_at}
+use Rattle.book_picture.proofs.Events.{have_texts, keeps_program, told_at}
 use Rattle.book_picture.proofs.entries.push_event.Goals as goal
+
+pub push_after-requires-clause-texts : goal.push_after-requires-clause-texts
+push_after-requires-clause-texts c =
+    let before = c.in_ok-before.before in
+    have_texts c.args.names.now c.prepared.new.orca.state before.touched.actors.items before.touched.token before.texts c.in_ok-before.ensures.before.texts
 
 pub returns-clause-told : goal.returns-clause-told
 returns-clause-told c =

@@ -12,6 +12,8 @@ returns c = record {
   alike = record { code = refl; options = refl };
   away = λ b. ap (λ bs. is_out bs b) c.change.ensures.rest.away;
   told = c.change.ensures.told c.requires.acts.cell c.requires.acts.home;
+  lie = λ some. c.change.ensures.lie tt;
+  blocks = refl;
   woken = none_woken_by (λ (x : Cell). record x { reported = true }) c.args.a (actors_of c.args.m.now.parts.table.slots)
       (actors_of c.change.new.self.slots) c.change.ensures.actors;
   stands = λ well on. cc;

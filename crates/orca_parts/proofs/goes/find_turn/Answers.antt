@@ -13,21 +13,20 @@ use Rattle.orca_parts.proofs.Giving.{seat_here}
 use Rattle.orca_parts.proofs.Homes.{home_is}
 use Rattle.orca_parts.proofs.Preparing.{acts_home, may_here, not_acting}
 use Rattle.orca_parts.proofs.goes.find_turn.Goals as goal
-use Rattle.letter_kinds.specs.Telling.{Told}
-use Rattle.actor_cell.specs.Tells.{Tells, told_out}
-use Rattle.orca_parts.proofs.Untold.{home_untold, still_untold, untold_holds}
+use Rattle.orca_parts.proofs.Untold.{home_holds}
 
 pub returns-in_default : goal.returns-in_default
-returns-in_default c = record {
+returns-in_default g c = record {
   same = refl;
   stands = λ on. cc;
   found = tt;
   few = tt;
   fault = not_acting (Go c.args.a) (slot_at c.args.m.now.parts.table.slots c.args.a) c.in_default.ensures.cell;
+  words = record { known = refl; places = refl; beside = refl };
 }
 
 pub returns-then-known : goal.returns-then-known
-returns-then-known c =
+returns-then-known g c =
     let m = c.args.m.now in
     let parts = m.parts in
     let a = c.args.a in
@@ -43,10 +42,11 @@ returns-then-known c =
       found = found_at m.options m.code.now a parts.turn parts.turned x cell home c.in-Some.ensures.owner known;
       few = found_few m.options m.code.now cell.heap.owner parts.turn parts.turned cell checked.good known;
       fault = tt;
+      words = record { known = refl; places = refl; beside = refl };
     }
 
 pub find_again-requires : goal.find_again-requires
-find_again-requires c =
+find_again-requires g c =
     let m = c.args.m.now in
     let parts = m.parts in
     let a = c.args.a in
@@ -60,11 +60,11 @@ find_again-requires c =
       awaits = subst (λ me. Awaits m.options.trace m.code.now me (as_cell cell) parts.turn parts.turned letter) (its ∙ sym c.in-Some.ensures.owner)
           (c.requires.stands c.if-stands.true letter (as_cell cell) (awaited_is a parts.turned.awaited letter is)
           (ap (cell_at (actors_of slots)) its ∙ ap cell_of (seat_here slots a cell home)));
-      stand = untold_holds _ (Tells cell) (home_untold slots a cell c.requires.untold home);
+      stand = home_holds _ slots a cell c.requires.hold home;
     }
 
 pub find_go-requires : goal.find_go-requires
-find_go-requires c =
+find_go-requires g c =
     let a = c.args.a in
     let x = slot_at c.args.m.now.parts.table.slots a in
     let cell = c.in-Some.cell.now in
@@ -73,11 +73,11 @@ find_go-requires c =
     record {
       running = goes_framed cell x.mail.letters (may_here may_go x cell home its.1);
       serials = c.requires.serials cell home;
-      stand = untold_holds _ (Tells cell) (home_untold c.args.m.now.parts.table.slots a cell c.requires.untold home);
+      stand = home_holds _ c.args.m.now.parts.table.slots a cell c.requires.hold home;
     }
 
 pub returns : goal.returns
-returns c =
+returns g c =
     let m = c.args.m.now in
     let a = c.args.a in
     let x = slot_at m.parts.table.slots a in
@@ -85,17 +85,17 @@ returns c =
     let home = home_is x cell (acts_home (Go a) x cell c.in-Some.ensures.cell).0 in
     let parts : Parts = record m.parts { turn = c.find_go.new.turn; turned = c.find_go.new.found } in
     let does = c.in_ok-find_go.ensures in
-    let untold = still_untold (Tells cell) (Told (told_out parts.turned)) (home_untold m.parts.table.slots a cell c.requires.untold home) does.told in
     record {
       same = refl;
       stands = λ on. awaited_at m.options m.code.now a parts cell home c.in-Some.ensures.owner does.found.awaited;
-      found = found_at m.options m.code.now a parts.turn parts.turned x cell home c.in-Some.ensures.owner (does.found.told, untold);
+      found = found_at m.options m.code.now a parts.turn parts.turned x cell home c.in-Some.ensures.owner (does.found.told, does.told);
       few = does.few;
       fault = tt;
+      words = does.words;
     }
 
 pub returns-in-Some-awaits : goal.returns-in-Some-awaits
-returns-in-Some-awaits c =
+returns-in-Some-awaits g c =
     let m = c.args.m.now in
     let a = c.args.a in
     let x = slot_at m.parts.table.slots a in
@@ -103,12 +103,12 @@ returns-in-Some-awaits c =
     let home = home_is x cell (acts_home (Go a) x cell c.in-Some.ensures.cell).0 in
     let parts : Parts = record m.parts { turned = c.find_again.new.found } in
     let does = c.in_ok-find_again.ensures in
-    let untold = still_untold (Tells cell) (Told (told_out parts.turned)) (home_untold m.parts.table.slots a cell c.requires.untold home) does.told in
     let checked = subst IsChecked c.program-program.ensures.value c.program-program.ensures.kept in
     record {
       same = refl;
       stands = λ on. awaited_at m.options m.code.now a parts cell home c.in-Some.ensures.owner does.found.awaited;
-      found = found_at m.options m.code.now a parts.turn parts.turned x cell home c.in-Some.ensures.owner (does.found.told, untold);
-      few = found_few m.options m.code.now cell.heap.owner parts.turn parts.turned cell checked.good (does.found.told, untold);
+      found = found_at m.options m.code.now a parts.turn parts.turned x cell home c.in-Some.ensures.owner (does.found.told, does.told);
+      few = found_few m.options m.code.now cell.heap.owner parts.turn parts.turned cell checked.good (does.found.told, does.told);
       fault = tt;
+      words = does.words;
     }

@@ -7,6 +7,7 @@ use Rattle.actor_cell.specs.Pushing.{push_all}
 use Rattle.actor_table.specs.Slots.{actors_of, away_of, slot_at}
 use Rattle.orca_parts.specs.Away.{is_out}
 use Rattle.orca_parts.specs.Core.{core_state}
+use Rattle.orca_parts.proofs.Owned.{own_fit}
 use Rattle.orca_parts.proofs.Giving.{seat_here}
 use Rattle.orca_parts.proofs.Homes.{home_stays, without_keeps}
 use Rattle.orca_parts.proofs.Stepped.{leave_goes}
@@ -15,12 +16,22 @@ use Rattle.orca_parts.proofs.leaves.apply_leave.Goals as goal
 use Rattle.actor_table.specs.Telling.{TableTells}
 use Rattle.letter_kinds.proofs.Telling.{tells_then}
 
+pub give_back-requires : goal.give_back-requires
+give_back-requires c =
+    let m = c.args.m.now in
+    let acts = c.requires.fits.acts in
+    record {
+      cell = acts.cell;
+      home = acts.home;
+      so = own_fit m.options.trace m.parts.blocks m.parts.table.slots c.args.a acts.cell c.requires.blocks acts.home;
+    }
+
 pub returns : goal.returns
 returns c =
     let m = c.args.m.now in
     let a = c.args.a in
     let slots = m.parts.table.slots in
-    let acts = c.requires.acts in
+    let acts = c.requires.fits.acts in
     let cell = acts.cell in
     let old = actors_of slots in
     let pushed = c.push_decs.ensures in
@@ -33,6 +44,8 @@ returns c =
       alike = record { code = refl; options = refl };
       away = λ b. ap (λ bs. is_out bs b) (pushed.away ∙ c.clear.ensures.away)
           ∙ without_keeps (away_of slots) a (home_stays slots a cell acts.home) b;
+      lie = λ some lies. pushed.lie (c.clear.ensures.lie lies);
+      blocks = c.give_back.ensures;
       told = tells_then (TableTells slots) (TableTells c.clear.new.self.slots) (TableTells c.push_decs.new.table.slots) [] c.clear.ensures.told pushed.told;
       woken = woken_without letters old (actors_of c.clear.new.self.slots) (actors_of c.push_decs.new.table.slots) c.push_decs.result
           (subst (OnlyLoses old) (sym c.clear.ensures.actors) (loses_one a old)) pushed.actors pushed.woken;

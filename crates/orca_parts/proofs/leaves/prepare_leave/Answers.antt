@@ -9,7 +9,7 @@ use Rattle.letter_kinds.specs.Counting.{Amount}
 use Rattle.orca_parts.specs.Letters.{FitLetters}
 use Rattle.orca_parts.specs.Touched.{receivers}
 use Rattle.orca_parts.specs.declared.parts.Parts.{Parts}
-use Rattle.orca_parts.proofs.Preparing.{acts_here, acts_still, only_room, prepared}
+use Rattle.orca_parts.proofs.Preparing.{acts_here, acts_still, only_room, prepared, still_lies}
 use Rattle.orca_parts.proofs.leaves.prepare_leave.Goals as goal
 
 pub give_back-requires : goal.give_back-requires
@@ -23,7 +23,7 @@ returns c =
     let parts : Parts = record m.parts { table = c.reserve_all.new.table; letters = c.in_ok-letters.letters } in
     let does = c.reserve_all.ensures.same in
     let returns = λ (x : Cell). c.in_ok-letters.letters.items ≡ left_behind c.args.a (as_cell x) in
-    prepared (Leave c.args.a) m parts (only_room m.parts parts refl refl refl does.actors does.away refl does.told) (record { turn = refl; turned = refl })
+    prepared (Leave c.args.a) m parts (only_room m.parts parts refl refl refl does.actors does.away refl does.told (still_lies slots parts.table.slots does.places) refl) (record { turn = refl; turned = refl })
     (record {
       acts = acts_still (Leave c.args.a) c.args.a slots parts.table.slots returns does.places does.letters
           (acts_here (Leave c.args.a) (slot_at slots c.args.a) c.in-Some.cell.now returns c.in-Some.ensures.cell c.in_ok-letters.ensures);

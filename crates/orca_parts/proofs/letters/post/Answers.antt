@@ -14,6 +14,7 @@ returns-clause-posts c =
       actors = c.push_letter.ensures.actors;
       away = c.push_letter.ensures.away;
       told = c.push_letter.ensures.told;
+      lie = c.push_letter.ensures.lie;
       woken = subst (λ xs. IsLowestWoken actors xs c.present-woken.result) (sym c.push_letter.ensures.actors)
           (subst (IsLowestWoken actors (push_letter c.args.to letter actors)) (sym c.present-woken.ensures)
           (push_wakes c.args.to letter actors));

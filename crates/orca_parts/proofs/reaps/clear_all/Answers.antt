@@ -23,6 +23,7 @@ loop-member-preserved c =
       away = ap (without_all (drop (i + 1) members)) c.clear.ensures.away
           ∙ sym (ap (λ ms. without_all ms (away_of slots)) rest) ∙ c.loop-member.invariant.away;
       told = tells_then (TableTells c.args.table.now.slots) (TableTells slots) (TableTells c.clear.new.self.slots) [] c.loop-member.invariant.told c.clear.ensures.told;
+      lie = λ lies. c.clear.ensures.lie (c.loop-member.invariant.lie lies);
       room = λ names fits.
           fits_without names slots c.clear.new.self.slots m (c.loop-member.invariant.room names fits) c.clear.ensures.actors c.clear.ensures.room;
     }

@@ -24,6 +24,8 @@ returns c =
       alike = record { code = refl; options = refl };
       away = λ b. ap (λ bs. is_out bs b) c.change.ensures.rest.away;
       told = c.change.ensures.told can.cell can.home;
+      lie = λ some. c.change.ensures.lie tt;
+      blocks = refl;
       woken = grind (arith, common_steps);
       stands = λ well on.
           subst (λ found. AwaitedIn trace code m.turn found after) (sym c.keep_room.ensures.rest)

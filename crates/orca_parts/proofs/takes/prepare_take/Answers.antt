@@ -12,5 +12,5 @@ returns c =
     let parts : Parts = record m.parts { table = c.reserve.new.self; notes = c.reserve-2.new.self } in
     let actors = c.reserve.ensures.actors in
     let away = c.reserve.ensures.rest.away in
-    prepared (Take c.args.a) m parts (only_room m.parts parts refl refl refl actors away (search rules) c.in_ok-reserve.ensures.told) (record { turn = refl; turned = refl })
+    prepared (Take c.args.a) m parts (only_room m.parts parts refl refl refl actors away (search rules) c.in_ok-reserve.ensures.told c.in_ok-reserve.ensures.lie refl) (record { turn = refl; turned = refl })
     (fits_take c.args.a parts slots actors away (acts_home (Take c.args.a) (slot_at slots c.args.a) c.in-Some._cell.now c.in-Some.ensures.cell).1 (search rules) (search rules))

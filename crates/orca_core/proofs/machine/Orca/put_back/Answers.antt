@@ -17,5 +17,6 @@ invariant_of-self c =
     record {
       reached = subst (λ xs. IsReached (record (core_state m.core) { actors = xs }) m.steps) (sym does.actors) c.self.invariant.reached;
       stands = λ on. subst (AwaitedIn m.core.options.trace m.core.code.now parts.turn parts.turned) (sym does.actors) (c.self.invariant.stands on);
+      none = c.self.invariant.none;
       untold = still_untold (TableTells parts.table.slots) (TableTells c.put_back.new.self.slots) c.self.invariant.untold does.told;
     }

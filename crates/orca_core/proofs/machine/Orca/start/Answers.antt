@@ -24,6 +24,7 @@ invariant_of-result c =
         early = omega arith;
       };
       stands = λ on. cc;
+      none = c.new-4.ensures;
       untold = c.in_ok-table.ensures.untold;
     }
 
