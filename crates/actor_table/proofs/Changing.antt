@@ -14,9 +14,11 @@ use Rattle.actor_cell.specs.declared.cell.Cell.{Cell}
 use Rattle.actor_cell.specs.Cells.{as_cell}
 use Rattle.actor_table.specs.declared.slot.Slot.{Slot}
 use Rattle.actor_table.specs.declared.slot.Place.TheVariants.{Home}
+use Rattle.actor_table.specs.Bringing.{BringsIts}
 use Rattle.actor_table.specs.Changes.{CanChange, Change, KeepsRoom, is_go}
 use Rattle.actor_table.specs.Index.{IsIndex}
 use Rattle.actor_table.specs.Slots.{AreIndexed, IsOwnedBy, Table, actors_of, away_of, can_act, can_settle, gone, home_in, home_of, is_away, may_at, owner_in, seat_of, slot_at}
+use Rattle.actor_table.proofs.Bringing.{brings_added, place_brings}
 use Rattle.actor_table.proofs.Indexing.{found_first, index_kept, index_push, index_put}
 
 -- an actor's seat is that of its place
@@ -82,29 +84,30 @@ module _ (slots : List Slot) (acting settling : List Bool) (a : ℕ) (y x : Slot
   here : slot_at slots a ≡ y
   here = place_read slots a y h read
 
-  indexed : (IsOwnedBy a y.place → IsOwnedBy a x.place) → (on off : List Bool) → IsIndex can_act gone on (set slots a x) → IsIndex can_settle gone off (set slots a x) → AreIndexed (set slots a x) on off
-  indexed own on off act settle = record {
+  indexed : (IsOwnedBy a y.place → IsOwnedBy a x.place) → (BringsIts y → BringsIts x) → (on off : List Bool) → IsIndex can_act gone on (set slots a x) → IsIndex can_settle gone off (set slots a x) → AreIndexed (set slots a x) on off
+  indexed own brings on off act settle = record {
     owned = λ b. grind (arith, all.owned b, own (subst (λ (z : Slot). IsOwnedBy a z.place) here (all.owned a)), get_or-set_at, get_or-set_other);
+    brings = place_brings slots a x h (subst (λ (z : Slot). BringsIts z → BringsIts x) (sym here) brings) all.brings;
     few = omega (arith, all.few, length-set slots a x);
     acts = act;
     settles = settle;
   }
 
   -- both are written
-  pub bits_follow : (IsOwnedBy a y.place → IsOwnedBy a x.place) → (on off : List Bool) → on ≡ set acting a (can_act x) → off ≡ set settling a (can_settle x) → AreIndexed (set slots a x) on off
-  bits_follow own on off one two = indexed own on off
+  pub bits_follow : (IsOwnedBy a y.place → IsOwnedBy a x.place) → (BringsIts y → BringsIts x) → (on off : List Bool) → on ≡ set acting a (can_act x) → off ≡ set settling a (can_settle x) → AreIndexed (set slots a x) on off
+  bits_follow own brings on off one two = indexed own brings on off
       (subst (λ bs. IsIndex can_act gone bs (set slots a x)) (sym one) (index_put can_act gone acting slots all.acts a x h))
       (subst (λ bs. IsIndex can_settle gone bs (set slots a x)) (sym two) (index_put can_settle gone settling slots all.settles a x h))
 
   -- one alone, where its cell stays
-  pub acting_follows : x.place ≡ y.place → (on : List Bool) (acts : Bool) → acts ≡ can_act x → on ≡ set acting a acts → AreIndexed (set slots a x) on settling
-  acting_follows same on acts act one = indexed (subst (IsOwnedBy a) (sym same)) on settling
+  pub acting_follows : x.place ≡ y.place → (BringsIts y → BringsIts x) → (on : List Bool) (acts : Bool) → acts ≡ can_act x → on ≡ set acting a acts → AreIndexed (set slots a x) on settling
+  acting_follows same brings on acts act one = indexed (subst (IsOwnedBy a) (sym same)) brings on settling
       (subst (λ bs. IsIndex can_act gone bs (set slots a x)) (sym (one ∙ ap (set acting a) act)) (index_put can_act gone acting slots all.acts a x h))
       (index_kept can_settle gone settling slots all.settles a x h (grind (arith, here)))
 
   -- a change that they don't tell
-  pub index_stays : seat_of x ≡ seat_of y → is_away x ≡ is_away y → owner_in x.place ≡ owner_in y.place → AreIndexed (set slots a x) acting settling
-  index_stays seat away owner = indexed (λ its. ap (λ o. unwrap_or o a) owner ∙ its) acting settling
+  pub index_stays : seat_of x ≡ seat_of y → is_away x ≡ is_away y → owner_in x.place ≡ owner_in y.place → (BringsIts y → BringsIts x) → AreIndexed (set slots a x) acting settling
+  index_stays seat away owner brings = indexed (λ its. ap (λ o. unwrap_or o a) owner ∙ its) brings acting settling
       (index_kept can_act gone acting slots all.acts a x h (grind (arith, here))) (index_kept can_settle gone settling slots all.settles a x h (grind (arith, here)))
 
 -- while a turn goes on, both are on
@@ -137,10 +140,12 @@ lost_past to letter slots past =
 
 pub indexed_push : (slots : List Slot) (acting settling on off : List Bool) (x : Slot) → AreIndexed slots acting settling
     → length slots < ACTORS_LIMIT → length slots < length acting → length slots < length settling → IsOwnedBy (length slots) x.place
+    → BringsIts x
     → on ≡ set acting (length slots) (can_act x) → off ≡ set settling (length slots) (can_settle x)
     → AreIndexed (slots ++ x ∷ []) on off
-indexed_push slots acting settling on off x all few act_room settle_room own one two = record {
+indexed_push slots acting settling on off x all few act_room settle_room own brings one two = record {
   owned = λ b. grind (arith, all.owned b, own, get_or_append_left, get_or_push, get_or_past, length-append);
+  brings = brings_added slots x brings all.brings;
   few = omega (arith, few, length-append slots (x ∷ []));
   acts = subst (λ bits. IsIndex can_act gone bits (slots ++ x ∷ [])) (sym one) (index_push can_act gone acting slots all.acts x act_room);
   settles = subst (λ bits. IsIndex can_settle gone bits (slots ++ x ∷ [])) (sym two) (index_push can_settle gone settling slots all.settles x settle_room);

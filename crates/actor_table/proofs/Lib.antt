@@ -1,3 +1,4 @@
+pub mod Bringing
 pub mod Changing
 pub mod Indexing
 pub mod Lying

@@ -14,6 +14,7 @@ use Rattle.actor_cell.specs.Cells.{as_cell}
 use Rattle.actor_table.specs.declared.slot.Slot.{Slot}
 use Rattle.actor_table.specs.declared.slot.Place.{Place}
 use Rattle.actor_table.specs.declared.slot.Place.TheVariants.{Home, Away, Gone}
+use Rattle.actor_table.specs.Bringing.{BringsIts}
 use Rattle.actor_table.specs.Index.{IsIndex}
 
 -- ---- one actor
@@ -130,10 +131,12 @@ letters_in slots = map (λ x. x.mail.letters) slots
 abbrev pub away_of : List Slot → List Bool
 away_of slots = map is_away slots
 
--- each cell is its actor's, no more actors are made than may be, and the indexes tell who acts, and who
--- settles once nothing else is to be done
+-- each cell is its actor's, each letter that waits tells of the rows that it brings and of no others,
+-- none waits for an actor that is gone, no more actors are made than may be, and the indexes tell who
+-- acts, and who settles once nothing else is to be done
 pub record AreIndexed (slots : List Slot) (acting settling : List Bool) : Type 0 where
   pub owned : (a : ℕ) → IsOwnedBy a (slot_at slots a).place
+  pub brings : (a : ℕ) → BringsIts (slot_at slots a)
   pub few : length slots ≤ ACTORS_LIMIT
   pub acts : IsIndex can_act gone acting slots
   pub settles : IsIndex can_settle gone settling slots

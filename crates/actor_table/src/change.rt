@@ -10,6 +10,7 @@ ghost use Rattle.actor_cell.specs.Cells.{as_cell};
 ghost use Rattle.actor_cell.specs.Moves.{act_in};
 ghost use Rattle.actor_cell.specs.Tells.{AllIn, PutsAll, Tells};
 ghost use Rattle.actor_cell.specs.declared.cell.Cell.{Cell as a_cell};
+ghost use Rattle.actor_table.specs.Bringing.{AreBrought};
 ghost use Rattle.actor_table.specs.Changes.{AllowsChange, Change, HasRoomIn, is_go, letter_taken, seat_after};
 ghost use Rattle.actor_table.specs.Telling.{TellsWith};
 
@@ -70,6 +71,8 @@ pub trait Changes {
         ensures told { TellsOnly (TellsWith cell.old mail.old.brought) (makes_in self.now cell.old)
             (TellsWith cell.new mail.new.brought) }
         ensures lie { puts_all self.now → AllIn cell.old.heap → AllIn cell.new.heap }
+        ensures brings { AreBrought mail.old.letters mail.old.brought
+            → AreBrought mail.new.letters mail.new.brought }
         ensures room { mail.old.spare ≤ mail.new.spare }
         ensures taken { option_map as_letter result ≡ letter_taken (as_change self.now) mail.old.letters };
 }

@@ -8,6 +8,7 @@ ghost use Rattle.machine_rules.specs.Actors.{with_letter_more};
 ghost use Rattle.machine_rules.specs.Guards.{may_block, may_do, may_go};
 ghost use Rattle.actor_cell.specs.Cells.{as_cell};
 ghost use Rattle.actor_cell.specs.declared.cell.Cell.{Cell as a_cell};
+ghost use Rattle.actor_table.specs.Bringing.{BringsIts};
 ghost use Rattle.actor_table.specs.Changes.{CanChange, HasRoomToChange, KeepsPlace, letter_taken, note_taken, seat_after};
 ghost use Rattle.actor_table.specs.Telling.{PlaceLies, SlotTells};
 ghost use Rattle.actor_table.specs.declared.slot.Place.TheVariants.{Gone, Home};
@@ -172,6 +173,7 @@ pub(crate) fn reserve<C: Changes>(
     ensures seat { seat_of slot.new ≡ seat_of slot.old }
     ensures told { TellsOnly (SlotTells slot.old) [] (SlotTells slot.new) }
     ensures lie { PlaceLies slot.old.place → PlaceLies slot.new.place }
+    ensures brings { BringsIts slot.old → BringsIts slot.new }
     ensures kept { KeepsPlace slot.old slot.new }
     ensures ok { OnOk result (HasRoomToChange (C.as_change change.now) slot.new) }
 {
@@ -268,6 +270,7 @@ pub(crate) fn change<C: Changes>(
     ensures told { (c : a_cell) → slot.old.place ≡ Home c
         → TellsOnly (SlotTells slot.old) (C.makes_in change.now c) (SlotTells slot.new) }
     ensures lie { C.puts_all change.now → PlaceLies slot.old.place → PlaceLies slot.new.place }
+    ensures brings { BringsIts slot.old → BringsIts slot.new }
     ensures kept { KeepsPlace slot.old slot.new }
     ensures taken { option_map as_letter result
         ≡ letter_taken (C.as_change change.now) slot.old.mail.letters }
@@ -284,6 +287,7 @@ pub(crate) fn push_letter(slot: &mut Slot, letter: Letter)
     requires { is_some (seat_of slot.old) ≡ true → 0 < slot.old.mail.spare }
     ensures seat { seat_of slot.new ≡ with_letter_more (as_letter letter) (seat_of slot.old) }
     ensures told { TellsOnly (SlotTells slot.old) (all_brought (brought_in letter)) (SlotTells slot.new) }
+    ensures brings { BringsIts slot.old → BringsIts slot.new }
     ensures place { slot.new.place ≡ slot.old.place }
     ensures room { slot.old.mail.spare ≤ slot.new.mail.spare + 1 }
 {

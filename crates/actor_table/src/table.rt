@@ -9,11 +9,12 @@ ghost use Rattle.actor_cell.specs.Cells.{as_cell};
 ghost use Rattle.actor_cell.specs.Tells.{AllIn, Tells};
 ghost use Rattle.actor_cell.specs.declared.cell.Cell.{Cell as a_cell};
 ghost use Rattle.orca_names.specs.declared.limits.TheConstants.{ACTORS_LIMIT};
-ghost use Rattle.actor_table.specs.declared.slot.Place.TheVariants.{Home};
+ghost use Rattle.actor_table.specs.declared.slot.Place.TheVariants.{Gone, Home};
+ghost use Rattle.actor_table.specs.Bringing.{AreBrought};
 ghost use Rattle.actor_table.specs.Changes.{CanChange, HasCell, HasRoomToChange, KeepsRest, KeepsSpace, OnlyTableRoom, changed_at, letter_taken, note_taken, seat_after};
 ghost use Rattle.actor_table.specs.Index.{IsIndex};
 ghost use Rattle.actor_table.specs.Rounds.{IsNextThat, has_event};
-ghost use Rattle.actor_table.specs.Slots.{actors_of, away_of, can_act, can_settle, event_of, gone, home_of, is_away, mail_of, may_event, slot_at};
+ghost use Rattle.actor_table.specs.Slots.{IsOwnedBy, actors_of, away_of, can_act, can_settle, event_of, gone, home_of, is_away, mail_of, may_event, slot_at};
 ghost use Rattle.actor_table.specs.Telling.{PlaceTells, TableLies, TableTells};
 
 use crate::bits::{put_bits, put_bits_after, reserve_bits};
@@ -202,6 +203,20 @@ impl ActorTable {
         named(self.ready(round).next(from.0))
     }
 
+    /// Each cell is its actor's, each letter that waits tells of the rows that it brings and of no
+    /// others, and none waits for an actor that is gone.
+    #[inline(always)]
+    pub fn tells_its_own(&self)
+        ensures owned { (a : ℕ) → IsOwnedBy a (slot_at self.now.slots a).place }
+        ensures brings { (a : ℕ) → AreBrought (slot_at self.now.slots a).mail.letters
+            (slot_at self.now.slots a).mail.brought }
+        ensures none { (a : ℕ) → (slot_at self.now.slots a).place ≡ Gone
+            → (slot_at self.now.slots a).mail.brought ≡ [] }
+    {
+        // A field is named, so that the proof sees what the type keeps.
+        let _ = &self.slots;
+    }
+
     /// Takes the memory for the change of an actor.
     ///
     /// # Errors
@@ -260,6 +275,7 @@ impl ActorTable {
         requires room { 0 < self.old.spare }
         requires few { length self.old.slots < ACTORS_LIMIT }
         requires owner { cell.heap.owner ≡ length self.old.slots }
+        requires brings { AreBrought mail.letters mail.brought }
         ensures slots { self.new.slots
             ≡ self.old.slots ++ record { place = Home cell; mail = mail } ∷ [] }
         ensures lie { AllIn cell.heap → TableLies self.old.slots → TableLies self.new.slots }
@@ -329,7 +345,7 @@ impl ActorTable {
     }
 
     /// The actor goes, with its cell and its letters. It takes no memory.
-    #[tactic(auto, using(crate::proofs::Changing::one_place, crate::proofs::Changing::bits_follow))]
+    #[tactic(auto, using(crate::proofs::Changing::one_place))]
     #[inline(always)]
     pub fn clear(&mut self, alloc: Global, a: ActorName)
         ensures actors { actors_of self.new.slots ≡ set (actors_of self.old.slots) a None }

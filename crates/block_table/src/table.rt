@@ -80,6 +80,7 @@ impl BlockTable {
     }
 
     /// How many blocks there are.
+    #[inline(always)]
     pub fn len(&self) -> usize
         ensures { result ≡ length self.now }
     {
@@ -87,6 +88,7 @@ impl BlockTable {
     }
 
     /// How many blocks are free.
+    #[inline(always)]
     pub fn count_free(&self) -> usize
         ensures { result ≡ count_free self.now }
     {

@@ -1,5 +1,5 @@
 -- What a book proves to be: a run of a program, or none from some entry on.
-use Rattle.std.specs.Prelude.{ℕ, ◌≡◌, ◌⊎◌, List, ◌∷◌, ◌++◌, length, ⊤}
+use Rattle.std.specs.Prelude.{ℕ, ◌≡◌, ◌⊎◌, List, [], ◌∷◌, ◌++◌, length, ⊤}
 use Rattle.behaviour_code.specs.declared.code.Program.{Program}
 use Rattle.event_rule.specs.Runs.{IsFull, NotEnabled}
 use Rattle.event_rule.specs.declared.event.Event.{Event}
@@ -15,11 +15,12 @@ use Rattle.book_audit.specs.declared.auditing.Verdict.TheVariants.{Run, Not}
 abbrev pub IsARun : Program → BookValue → Type 0
 IsARun program book = (s : State) × IsRun program (options_of_book book) book.entries s
 
--- and the machine stands behind its last entry, with all cells at home
+-- and the machine stands behind its last entry, with all cells at home, and without blocks
 pub record IsAuditedRun (program : Program) (book : BookValue) (m : Machine) : Type 0 where
   pub run : IsRun program (options_of_book book) book.entries m.state
   pub steps : m.steps ≡ length book.entries
   pub home : NoneIsAway m
+  pub none : m.blocks ≡ []
 
 -- why an entry is refused: 1, it is not enabled; 2, it would make an actor too many
 abbrev pub IsCause : ℕ → State → Event → Type 0

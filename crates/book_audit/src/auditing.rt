@@ -1,6 +1,6 @@
 // A book is followed, entry by entry.
 
-ghost use Rattle.std.specs.Prelude.{◌≡◌, ◌≤◌, ◌↔◌, ℕ, IfOk, MatchOption, length};
+ghost use Rattle.std.specs.Prelude.{◌≡◌, ◌≤◌, ◌↔◌, ℕ, [], IfOk, MatchOption, length};
 ghost use Rattle.orca_names.specs.declared.limits.TheConstants.{BOOK_LIMIT};
 ghost use Rattle.machine_rules.specs.State.{first_state};
 ghost use Rattle.orca_core.specs.Machine.{NoneIsAway};
@@ -10,13 +10,14 @@ ghost use Rattle.run_book.specs.Books.{options_of_book};
 use behaviour_check::Checked;
 use orca_core::{Orca, StepFault};
 use orca_names::NoMemory;
+use row_store::NoBlocks;
 use run_book::Book;
 use std::alloc::Global;
 
 /// What a book proves to be.
 #[derive(Drop)]
 pub enum Verdict<'a> {
-    /// A run of the program, which leads to this state.
+    /// A run of the program, which leads to this state. The machine has no blocks.
     Run { state: Orca<'a> },
     /// None: the entries before this place, counted from 0, are a run, and the one at it is refused.
     /// The cause is 1 where it is not enabled, and 2 where it would make an actor too many.
@@ -34,12 +35,13 @@ fn first_refused(
         ≡ first_state orca.old.state.program (options_of_book book.now) }
     requires early { orca.old.steps ≡ 0 }
     requires home { NoneIsAway orca.old }
+    requires none { orca.old.blocks ≡ [] }
     ensures { let program = orca.old.state.program in
         IfOk result (λ found. MatchOption found (IsAuditedRun program book.now orca.new)
         (λ refused. IsRefuted program book.now refused.0 refused.1)) }
 {
     for place in 0..book.len() {
-        match orca.step(alloc, book.at(place)) {
+        match orca.step(alloc, book.at(place), &mut NoBlocks::default()) {
             Ok(_) => {}
             Err(StepFault::NotEnabled) => return Ok(Some((place, 1))),
             Err(StepFault::ActorsFull { .. }) => return Ok(Some((place, 2))),
@@ -74,7 +76,7 @@ pub fn audit<'a>(alloc: Global, code: &'a Checked, book: &Book) -> Result<Verdic
     ensures refuted { IfOk result (λ v. (place cause : ℕ)
         → v ≡ Verdict.Not place cause ↔ IsRefuted code.now book.now place cause) }
 {
-    let mut orca = Orca::start(alloc, code, book.weight(), book.trace())?;
+    let mut orca = Orca::start(alloc, code, book.weight(), None, book.trace())?;
     let refused = first_refused(alloc, &mut orca, book)?;
     Ok(verdict_of(orca, refused))
 }

@@ -30,7 +30,8 @@ use work_board::{Committed, Look, Refuse};
 
 /// A run that several workers change, seen by contracts as its program, its options, its budget, its
 /// book, the claims that are out, and whether a stop was asked. Its state is the one that the book
-/// leads to, the book is a run of at most as many entries as the budget, and no cell is away.
+/// leads to, the book is a run of at most as many entries as the budget, no cell is away, and the
+/// machine has no blocks.
 #[derive(Drop)]
 pub struct Hall<'a> {
     code: &'a Checked,
@@ -42,6 +43,7 @@ pub struct Hall<'a> {
 }
 
 impl<'a> Model for Hall<'a> {
+    ghost use Rattle.std.specs.Prelude.{◌≡◌, []};
     ghost use Rattle.hall_rules.specs.Halls.{HallValue};
     ghost use Rattle.hall_rules.specs.Kept.{IsRunWithin};
     ghost use Rattle.orca_core.specs.Machine.{NoneIsAway};
@@ -60,7 +62,7 @@ impl<'a> Model for Hall<'a> {
 
     ghost invariant = { λ h. let options = options_of_book h.book in
         IsRunWithin h.code.now options h.budget h.orca.state h.orca.steps h.book.entries
-        × NoneIsAway h.orca };
+        × NoneIsAway h.orca × (h.orca.blocks ≡ []) };
 }
 
 impl<'a> Hall<'a> {
@@ -86,7 +88,7 @@ impl<'a> Hall<'a> {
           stopped = false;
         }) }
     {
-        let orca = Orca::start(alloc, code, weight, Trace::Deep)?;
+        let orca = Orca::start(alloc, code, weight, None, Trace::Deep)?;
         Ok(Hall {
             code,
             budget,
@@ -212,9 +214,10 @@ impl<'a> Hall<'a> {
         self.stopped = true;
     }
 
-    /// The machine, whose state is that of the book, and the book.
+    /// The machine, whose state is that of the book and which has no blocks, and the book.
     pub fn into_parts(self) -> (Orca<'a>, Book)
-        ensures { AreParts self.entry result.0 result.1 }
+        ensures whole { AreParts self.entry result.0 result.1 }
+        ensures blockless { result.0.blocks ≡ [] }
     {
         (self.orca, self.book)
     }

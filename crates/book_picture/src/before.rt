@@ -1,6 +1,6 @@
 // What an event finds, of which its entry tells what changes.
 
-ghost use Rattle.std.specs.Prelude.{◌≡◌, IfOk};
+ghost use Rattle.std.specs.Prelude.{◌≡◌, [], IfOk};
 ghost use Rattle.orca_core.specs.Machine.{NoneIsAway};
 ghost use Rattle.picture_rules.specs.Pictures.{heard};
 ghost use Rattle.book_picture.specs.Entries.{IsBefore, IsStateOfParts};
@@ -44,7 +44,8 @@ pub(crate) fn before_event(
     names: &Names,
     ready: &Ready,
 ) -> Result<Before, NoMemory>
-    requires { NoneIsAway orca.now }
+    requires home { NoneIsAway orca.now }
+    requires none { orca.now.blocks ≡ [] }
     ensures before { IfOk result (IsBefore names.now ready.now.event orca.now) }
     ensures state { IsStateOfParts orca.now }
 {

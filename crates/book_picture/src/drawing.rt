@@ -1,6 +1,6 @@
 // A book is drawn, entry by entry.
 
-ghost use Rattle.std.specs.Prelude.{◌≡◌, ◌++◌, ◌≤◌, IfOk, OnOk, length, string_bytes};
+ghost use Rattle.std.specs.Prelude.{◌≡◌, ◌++◌, ◌≤◌, [], IfOk, OnOk, length, string_bytes};
 ghost use Rattle.orca_names.specs.declared.limits.TheConstants.{BOOK_LIMIT};
 ghost use Rattle.orca_names.specs.declared.options.Options.{Options as any_options};
 ghost use Rattle.machine_rules.specs.Run.{IsRun};
@@ -25,6 +25,7 @@ use std::alloc::{AllocError, Global};
 /// The lines of a first state: its one actor and the detector.
 fn push_first(orca: &Orca<'_>, names: &Names, out: &mut String) -> Result<(), AllocError>
     requires home { NoneIsAway orca.now }
+    requires none { orca.now.blocks ≡ [] }
     requires first { (options : any_options)
         × (orca.now.state ≡ first_state orca.now.state.program options) }
     requires names { names.now ≡ orca.now.state.program.names }
@@ -50,6 +51,7 @@ fn push_entries(
         ≡ first_state orca.old.state.program (options_of_book book.now) }
     requires early { orca.old.steps ≡ 0 }
     requires home { NoneIsAway orca.old }
+    requires none { orca.old.blocks ≡ [] }
     requires names { names.now ≡ orca.old.state.program.names }
     ensures told { OnOk result (TellsRun orca.old.state book.now.entries orca.new.state
         (string_bytes out.old) (string_bytes out.new)) }
@@ -75,6 +77,7 @@ fn push_all(
         ≡ first_state orca.old.state.program (options_of_book book.now) }
     requires early { orca.old.steps ≡ 0 }
     requires home { NoneIsAway orca.old }
+    requires none { orca.old.blocks ≡ [] }
     requires names { names.now ≡ orca.old.state.program.names }
     ensures { OnOk result (TellsToTheEnd orca.old.state book.now.entries
         (string_bytes out.old) (string_bytes out.new)) }
@@ -93,7 +96,7 @@ fn push_run(alloc: Global, code: &Checked, book: &Book, out: &mut String) -> Res
     ensures { let first = first_state code.now (options_of_book book.now) in
         OnOk result (TellsToTheEnd first book.now.entries (string_bytes out.old) (string_bytes out.new)) }
 {
-    let mut orca = Orca::start(alloc, code, book.weight(), book.trace())?;
+    let mut orca = Orca::start(alloc, code, book.weight(), None, book.trace())?;
     push_all(alloc, &mut orca, &code.program().names, book, out)
 }
 

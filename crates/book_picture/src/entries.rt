@@ -1,6 +1,6 @@
 // The lines of an entry.
 
-ghost use Rattle.std.specs.Prelude.{◌≡◌, ◌++◌, ◌+◌, ◌-◌, ◌<◌, IfOk, OnOk, drop, length, map, string_bytes};
+ghost use Rattle.std.specs.Prelude.{◌≡◌, ◌++◌, ◌+◌, ◌-◌, ◌<◌, [], IfOk, OnOk, drop, length, map, string_bytes};
 ghost use Rattle.orca_names.specs.declared.limits.TheConstants.{BOOK_LIMIT};
 ghost use Rattle.event_rule.specs.Runs.{Goes};
 ghost use Rattle.machine_rules.specs.Next.{next};
@@ -21,6 +21,7 @@ use letter_kinds::Note;
 use orca_core::{Orca, Ready, StepFault};
 use orca_names::{NoMemory, Value};
 use picture_lines::{push_entry, push_note, push_print};
+use row_store::NoBlocks;
 use std::alloc::{AllocError, Global};
 use std::collections::VecDeque;
 
@@ -56,6 +57,7 @@ fn push_after(
     out: &mut String,
 ) -> Result<(), NoMemory>
     requires home { NoneIsAway orca.now }
+    requires none { orca.now.blocks ≡ [] }
     requires texts { HaveTexts before.now.texts before.now.touched.actors.items }
     ensures { let b = before.now in let t = orca.now.state in (s : State)
         → AreTexts names.now s b.touched.actors.items b.touched.token b.texts
@@ -75,12 +77,13 @@ fn push_after(
 fn prepared(alloc: Global, orca: &mut Orca<'_>, event: Event) -> Result<Ready, NoMemory>
     requires early { orca.old.steps < BOOK_LIMIT }
     requires home { NoneIsAway orca.old }
+    requires none { orca.old.blocks ≡ [] }
     requires goes { LeadsOn orca.old.state event }
     ensures same { IsSame orca.old orca.new }
     ensures event { IfOk result (λ ready. ready.event ≡ event) }
     ensures ok { IfOk result (λ ready. Fits ready orca.new) }
 {
-    match orca.prepare(alloc, event) {
+    match orca.prepare(alloc, event, &mut NoBlocks::default()) {
         Ok(ready) => Ok(ready),
         Err(StepFault::NoMemory) => Err(NoMemory),
         Err(StepFault::NotEnabled) => unreachable!(),
@@ -102,18 +105,20 @@ pub(crate) fn push_event(
 ) -> Result<(), NoMemory>
     requires early { orca.old.steps < BOOK_LIMIT }
     requires home { NoneIsAway orca.old }
+    requires none { orca.old.blocks ≡ [] }
     requires run { IsAfterRun orca.old.state }
     requires goes { LeadsOn orca.old.state event }
     requires names { names.now ≡ orca.old.state.program.names }
     ensures goes { OnOk result (next orca.old.state event ≡ Goes orca.new.state) }
     ensures steps { OnOk result (orca.new.steps ≡ orca.old.steps + 1) }
     ensures home { OnOk result (NoneIsAway orca.new) }
+    ensures none { OnOk result (orca.new.blocks ≡ []) }
     ensures told { OnOk result (string_bytes out.new ≡ string_bytes out.old
         ++ text_of_lines (entry_lines event orca.old.state orca.new.state)) }
 {
     orca.weight_is_above_zero();
     let ready = prepared(alloc, orca, event)?;
     let before = before_event(alloc, orca, names, &ready)?;
-    orca.apply_ready(ready);
+    orca.apply_ready(ready, &mut NoBlocks::default());
     push_after(alloc, orca, names, &event, &before, out)
 }

@@ -1,6 +1,6 @@
 // The texts of the lines of parts of a state, each empty where the part is not there.
 
-ghost use Rattle.std.specs.Prelude.{◌≡◌, ◌++◌, Option, IfOk, IfSome, OnOk, map, string_bytes};
+ghost use Rattle.std.specs.Prelude.{◌≡◌, ◌++◌, [], Option, IfOk, IfSome, OnOk, map, string_bytes};
 ghost use Rattle.std.specs.Option.{option_map, option_copied};
 ghost use Rattle.letter_kinds.specs.Telling.{TellsNothing, ToldByOne};
 ghost use Rattle.actor_cell.specs.Cells.{as_cell};
@@ -65,7 +65,8 @@ fn seat_texts(
     names: &Names,
     actors: &[ActorName],
 ) -> Result<Vec<String>, NoMemory>
-    requires { NoneIsAway orca.now }
+    requires home { NoneIsAway orca.now }
+    requires none { orca.now.blocks ≡ [] }
     ensures { IfOk result (λ v. map string_bytes v.items
         ≡ seat_texts names.now orca.now.state actors.now) }
 {
@@ -159,7 +160,8 @@ pub(crate) fn texts_of(
     names: &Names,
     touched: &Touched,
 ) -> Result<Texts, NoMemory>
-    requires { NoneIsAway orca.now }
+    requires home { NoneIsAway orca.now }
+    requires none { orca.now.blocks ≡ [] }
     ensures { let touch = touched.now in
         IfOk result (AreTexts names.now orca.now.state touch.actors.items touch.token) }
 {

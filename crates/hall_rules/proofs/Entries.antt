@@ -75,11 +75,12 @@ module _ (program : Program) (budget : ℕ) (m : Machine) (book : BookValue)
     room : spent_cause (length book.entries) budget ≡ None
     room = has_room m.state (length book.entries) budget e holder (sym none)
 
-    pub may_enter : is_out_for m.out e ≡ false → ReapsNoneAway e m → (place : Option (Box Found))
+    pub may_enter : is_out_for m.out e ≡ false → m.blocks ≡ [] → ReapsNoneAway e m → (place : Option (Box Found))
         → ForSome place (λ known. IsFoundIn e known.value m) → MayEnter e place m
-    may_enter home spares place found = record {
+    may_enter home none_is spares place found = record {
       early = is_early program budget m book kept room;
       home = home;
+      none = none_is;
       spares = spares;
       ready = is_ready m.state (length book.entries) budget e holder (sym none);
       found = found;

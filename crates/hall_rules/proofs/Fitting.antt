@@ -72,4 +72,4 @@ still_found m e found start its has is = λ a acts c at.
     let there : home_of (slot_at m.kept.table.slots start.heap.owner) ≡ Some c =
     sym (ap (λ b. home_of (slot_at m.kept.table.slots b)) a_is) ∙ ap home_in at in
     let same : IsSame c start = subst (λ o. IsSomeAnd o (λ k. IsSame k start)) there has in
-    (found_same m.state.options.weight m.state.program c start same m.state.options.trace found is.0, is.1)
+    (found_same m.state.options.weight m.state.program c start same m.state.options.trace found is.0, λ n row block told. absurd (is.1 n row block told))

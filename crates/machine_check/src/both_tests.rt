@@ -1,9 +1,9 @@
-// Both machines over one program: the machine that frees nothing makes the choices of the one that
-// collects.
+// Both machines over one program: what is left at the end is what the other reaches.
 
-ghost use Rattle.std.specs.Prelude.{◌<◌, ◌≤◌};
+ghost use Rattle.std.specs.Prelude.{◌≡◌, ◌<◌, ◌≤◌, []};
 ghost use Rattle.orca_core.specs.Machine.{NoneIsAway};
 
+use crate::beside::{Ended, prints_the_same};
 use crate::left_by_roots::is_reached_or_held;
 use crate::plain_tests::checked;
 use crate::programs::{
@@ -12,111 +12,12 @@ use crate::programs::{
 };
 use behaviour_check::Checked;
 use drawn_program::{Lot, program};
-use event_rule::Event;
-use letter_kinds::Letter;
 use orca_core::Orca;
-use orca_names::{ActorName, Trace};
+use orca_names::Trace;
 use plain_machine::Plain;
+use row_store::NoBlocks;
 use std::alloc::Global;
 use std::test::Fail;
-
-const MOST: u64 = 100_000;
-
-/// Whether the first letter of an actor is one that a program sent.
-fn has_application_letter(orca: &Orca<'_>, a: ActorName) -> bool {
-    match orca.mail(a) {
-        Some(mail) => matches!(mail.front(), Some(Letter::App { .. })),
-        None => false,
-    }
-}
-
-/// Where in its behaviour an actor is, if it has a frame.
-fn place_of(orca: &Orca<'_>, a: ActorName) -> Option<u32> {
-    Some(orca.cell(a)?.frame.get()?.place)
-}
-
-/// Does an event in the machine that collects.
-fn step(alloc: Global, orca: &mut Orca<'_>, event: Event) -> Result<(), Fail>
-    requires { NoneIsAway orca.old }
-    ensures { NoneIsAway orca.new }
-{
-    if orca.steps() >= MOST {
-        return Err(Fail::from("a long run"));
-    }
-    match orca.step(alloc, event) {
-        Ok(_) => Ok(()),
-        Err(fault) => Err(Fail::from(fault)),
-    }
-}
-
-/// Does a go, and answers whether the frame is another then: else counts were minted for its act.
-fn goes_on(alloc: Global, orca: &mut Orca<'_>, a: ActorName) -> Result<bool, Fail>
-    requires { NoneIsAway orca.old }
-    ensures { NoneIsAway orca.new }
-{
-    let before = place_of(orca, a);
-    step(alloc, orca, Event::Go(a))?;
-    Ok(place_of(orca, a) != before)
-}
-
-/// Does an event, and answers whether it is a choice, which the machine that frees nothing makes too:
-/// the take of a letter that a program sent, or a go after which the frame is another.
-fn does(alloc: Global, orca: &mut Orca<'_>, event: &Event) -> Result<bool, Fail>
-    requires { NoneIsAway orca.old }
-    ensures { NoneIsAway orca.new }
-{
-    let is_choice = match event {
-        Event::Go(a) => return goes_on(alloc, orca, *a),
-        Event::Take(a) => has_application_letter(orca, *a),
-        _ => false,
-    };
-    step(alloc, orca, *event)?;
-    Ok(is_choice)
-}
-
-/// Does a choice in the machine that frees nothing.
-fn follows(alloc: Global, plain: &mut Plain<'_>, event: &Event) -> Result<(), Fail> {
-    if plain.steps() >= MOST {
-        return Err(Fail::from("a long run"));
-    }
-    match *event {
-        Event::Take(a) => plain.take(a)?,
-        Event::Go(a) => plain.go(alloc, a)?,
-        _ => {}
-    }
-    Ok(())
-}
-
-/// Does the first enabled event, in both machines where it is a choice. It answers whether one was
-/// enabled.
-fn steps_both(alloc: Global, orca: &mut Orca<'_>, plain: &mut Plain<'_>) -> Result<bool, Fail>
-    requires { NoneIsAway orca.old }
-    ensures { NoneIsAway orca.new }
-{
-    let Some(event) = orca.first_enabled() else {
-        return Ok(false);
-    };
-    if does(alloc, orca, &event)? {
-        follows(alloc, plain, &event)?;
-    }
-    Ok(true)
-}
-
-/// Whether both machines printed the same after each event, to where no event is enabled.
-fn print_the_same(alloc: Global, orca: &mut Orca<'_>, plain: &mut Plain<'_>) -> Result<bool, Fail>
-    requires { NoneIsAway orca.old }
-    ensures { NoneIsAway orca.new }
-{
-    for _ in 0..MOST {
-        if !steps_both(alloc, orca, plain)? {
-            return Ok(true);
-        }
-        if orca.prints() != plain.prints() {
-            return Ok(false);
-        }
-    }
-    Err(Fail::from("a long run"))
-}
 
 /// How many more things are left in the one machine, which is quiet, than are reachable in the other:
 /// none by deep tracing. `None` where other things are left than should be.
@@ -145,25 +46,15 @@ fn end_alike(
     plain: &mut Plain<'_>,
     trace: Trace,
 ) -> Result<Option<usize>, Fail>
-    requires { NoneIsAway orca.old }
+    requires home { NoneIsAway orca.old }
+    requires none { orca.old.blocks ≡ [] }
 {
-    if print_the_same(alloc, orca, plain)? && plain.first_enabled().is_none() {
+    let ended = prints_the_same(alloc, orca, plain, &mut NoBlocks::default())?;
+    if ended == Some(Ended::Quiet) && plain.first_enabled().is_none() {
         surplus(alloc, orca, plain, trace)
     } else {
         Ok(None)
     }
-}
-
-fn end_alike_with(
-    alloc: Global,
-    orca: &mut Orca<'_>,
-    code: &Checked,
-    trace: Trace,
-) -> Result<Option<usize>, Fail>
-    requires { NoneIsAway orca.old }
-{
-    let mut plain = Plain::start(alloc, code)?;
-    end_alike(alloc, orca, &mut plain, trace)
 }
 
 fn end_alike_over(
@@ -175,8 +66,9 @@ fn end_alike_over(
     requires heavy { 0 < weight }
     requires light { weight ≤ 65536 }
 {
-    let mut orca = Orca::start(alloc, code, weight, trace)?;
-    end_alike_with(alloc, &mut orca, code, trace)
+    let mut plain = Plain::start(alloc, code)?;
+    let mut orca = Orca::start(alloc, code, weight, None, trace)?;
+    end_alike(alloc, &mut orca, &mut plain, trace)
 }
 
 /// How many more things are left of a program in the machine that collects than are reachable in the other;

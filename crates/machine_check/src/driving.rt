@@ -49,7 +49,7 @@ fn installs(
         drive.trace,
         &mut NoBlocks::default(),
     ) {
-        Ok(found) => machine.install(alloc, event, found),
+        Ok(found) => machine.install(alloc, event, found, &mut NoBlocks::default()),
         Err(_) => Err(StepFault::NoMemory),
     }
 }
@@ -84,5 +84,5 @@ pub(crate) fn does(
     }
     // A run led to the machine, and an event keeps its program.
     machine.keeps_the_reachable();
-    machine.step(alloc, event)
+    machine.step(alloc, event, &mut NoBlocks::default())
 }

@@ -6,6 +6,10 @@
 #[cfg(test)]
 mod audit_tests;
 #[cfg(test)]
+mod beside;
+#[cfg(test)]
+mod block_tests;
+#[cfg(test)]
 mod both_tests;
 #[cfg(test)]
 mod driving;

@@ -38,6 +38,10 @@ pub(crate) const PING: &str =
 pub(crate) const NAMED: &str =
     "kind Main 0\non start 0\nnew r0 J\nnew r1 K\nsend r0 make r1\nend\nkind J 0\non make 1\npin\nrow r1 r0\nsend r0 keep r1\nend\nkind K 1\non keep 1\nstore f0 r0\nend\n";
 
+/// An object is made while the letter waits whose turn makes another.
+pub(crate) const ONE_AFTER_ANOTHER: &str =
+    "kind Main 0\non start 0\nint r0 1\nrow r1 r0\nself r2\nsend r2 again\nend\non again 0\nrow r1 r0\nend\n";
+
 /// Letters that nobody hears: unknown behaviours, too many values, and no actor to send to.
 pub(crate) const UNHEARD: &str =
     "kind Main 0\non start 0\npin\nself r0\nint r1 1\nrow r2 r1\nsend r0 nowhere r2\nsend r0 start r2\nsend r1 start\nprint r1\nend\n";

@@ -1,6 +1,6 @@
 // Reasons that hold up, and reasons that do not.
 
-ghost use Rattle.std.specs.Prelude.{◌≡◌, ◌<◌, ◌≤◌, length};
+ghost use Rattle.std.specs.Prelude.{◌≡◌, ◌<◌, ◌≤◌, [], length};
 ghost use Rattle.orca_names.specs.declared.limits.TheConstants.{BOOK_LIMIT};
 ghost use Rattle.orca_core.specs.Machine.{NoneIsAway};
 
@@ -35,6 +35,7 @@ const BY_REGISTER: Why = Why::By {
 /// Whether lines hold up once this is said of the thing of one of them.
 fn hold_with(orca: &Orca<'_>, lines: &mut [Reason], at: usize, level: u64, why: Why) -> bool
     requires home { NoneIsAway orca.now }
+    requires none { orca.now.blocks ≡ [] }
     requires there { at < length lines.old }
 {
     let told = lines[at];
@@ -52,6 +53,7 @@ fn hold_with(orca: &Orca<'_>, lines: &mut [Reason], at: usize, level: u64, why: 
 /// they should.
 fn first_wrong(orca: &Orca<'_>, lines: &mut [Reason]) -> Option<usize>
     requires home { NoneIsAway orca.now }
+    requires none { orca.now.blocks ≡ [] }
     requires three { length lines.old ≡ 3 }
 {
     let by_loose = Why::By {
@@ -84,6 +86,7 @@ fn first_wrong(orca: &Orca<'_>, lines: &mut [Reason]) -> Option<usize>
 /// else is.
 fn root_holds_at_any_level(orca: &Orca<'_>, lines: &mut [Reason]) -> bool
     requires home { NoneIsAway orca.now }
+    requires none { orca.now.blocks ≡ [] }
     requires three { length lines.old ≡ 3 }
 {
     lines[0].level = 4;
@@ -95,6 +98,7 @@ fn root_holds_at_any_level(orca: &Orca<'_>, lines: &mut [Reason]) -> bool
 /// Whether three lines hold up no more where one lacks, two have changed places, or one stands twice.
 fn hold_whole_alone(orca: &Orca<'_>, lines: &[Reason]) -> bool
     requires home { NoneIsAway orca.now }
+    requires none { orca.now.blocks ≡ [] }
     requires three { length lines.now ≡ 3 }
 {
     let lacking = [lines[0], lines[1]];
@@ -106,6 +110,7 @@ fn hold_whole_alone(orca: &Orca<'_>, lines: &[Reason]) -> bool
 /// Whether these three reasons hold up, and do not once one of the five things is broken.
 fn hold_exactly(orca: &Orca<'_>, lines: &mut [Reason]) -> bool
     requires home { NoneIsAway orca.now }
+    requires none { orca.now.blocks ≡ [] }
     requires three { length lines.old ≡ 3 }
 {
     holds_up(orca, lines)
@@ -116,7 +121,8 @@ fn hold_exactly(orca: &Orca<'_>, lines: &mut [Reason]) -> bool
 
 /// Whether there are three reasons in a state, and they do so.
 fn reasons_hold(alloc: Global, orca: &Orca<'_>) -> Result<bool, NoMemory>
-    requires { NoneIsAway orca.now }
+    requires home { NoneIsAway orca.now }
+    requires none { orca.now.blocks ≡ [] }
 {
     let mut reasons = explain(alloc, orca)?;
     Ok(reasons.len() == 3 && hold_exactly(orca, reasons.as_mut_slice()))

@@ -1,5 +1,6 @@
 // The machine that collects, driven event by event over checked texts.
 
+ghost use Rattle.std.specs.Prelude.{◌≡◌, []};
 ghost use Rattle.machine_check.specs.Driven.{IsDriven};
 ghost use Rattle.orca_core.specs.Machine.{NoneIsAway};
 
@@ -10,6 +11,7 @@ use behaviour_check::Checked;
 use event_rule::Event;
 use orca_core::{Orca, StepFault};
 use orca_names::{ActorName, Serial, Trace, Value};
+use row_store::NoBlocks;
 use std::alloc::Global;
 use std::test::Fail;
 
@@ -276,15 +278,16 @@ fn lends(machine: &mut Orca<'_>, a: ActorName, e: &Event) -> bool {
 
 /// Whether an event is done as it was prepared, and not before.
 fn does_prepared(alloc: Global, machine: &mut Orca<'_>, e: Event) -> Result<bool, Fail>
-    requires { NoneIsAway machine.old }
+    requires home { NoneIsAway machine.old }
+    requires none { machine.old.blocks ≡ [] }
 {
     let steps = machine.steps();
     if steps > 1000 {
         return Err(Fail::from("a long run"));
     }
-    let ready = machine.prepare(alloc, e)?;
+    let ready = machine.prepare(alloc, e, &mut NoBlocks::default())?;
     let waits = machine.steps() == steps && machine.enabled(e);
-    machine.apply_ready(ready);
+    machine.apply_ready(ready, &mut NoBlocks::default());
     Ok(waits && machine.steps() == steps + 1 && !machine.enabled(e))
 }
 
@@ -314,7 +317,7 @@ fn holds(
 }
 
 fn holds_at_start(alloc: Global, drive: &Drive<'_>, look: Look<'_>) -> Result<bool, Fail> {
-    let mut machine = Orca::start(alloc, drive.code, WEIGHT, drive.trace)?;
+    let mut machine = Orca::start(alloc, drive.code, WEIGHT, None, drive.trace)?;
     holds(alloc, drive, &mut machine, look)
 }
 

@@ -1,5 +1,6 @@
 // What each event of a run touches, and what the detector knows at its end.
 
+ghost use Rattle.std.specs.Prelude.{◌≡◌, []};
 ghost use Rattle.orca_core.specs.Machine.{NoneIsAway};
 
 use crate::driving::WEIGHT;
@@ -9,6 +10,7 @@ use crate::tests::{BLOCK, COLLECT, GO, HEAR, LEAVE, REAP, SCAN, TAKE, event};
 use behaviour_check::Checked;
 use orca_core::Orca;
 use orca_names::{ActorName, Trace};
+use row_store::NoBlocks;
 use std::alloc::Global;
 use std::test::Fail;
 
@@ -95,24 +97,28 @@ fn are_named(names: &[ActorName], numbers: &[u32]) -> bool {
 
 /// Whether an event touches these, and is done then.
 fn touches(alloc: Global, machine: &mut Orca<'_>, touching: Touching) -> Result<bool, Fail>
-    requires { NoneIsAway machine.old }
-    ensures { NoneIsAway machine.new }
+    requires home { NoneIsAway machine.old }
+    requires none { machine.old.blocks ≡ [] }
+    ensures home { NoneIsAway machine.new }
+    ensures none { machine.new.blocks ≡ [] }
 {
     let (kind, number, actors, token) = touching;
     if machine.steps() > 1000 {
         return Err(Fail::from("a long run"));
     }
-    let ready = machine.prepare(alloc, event(kind, number))?;
+    let ready = machine.prepare(alloc, event(kind, number), &mut NoBlocks::default())?;
     let names = machine.touched(alloc, &ready)?;
     let named = are_named(&names, actors) && machine.touched_token(&ready) == token;
-    machine.apply_ready(ready);
+    machine.apply_ready(ready, &mut NoBlocks::default());
     Ok(named)
 }
 
 /// Whether these events, one after another, touch what is expected.
 fn touch_all(alloc: Global, machine: &mut Orca<'_>, events: &[Touching]) -> Result<bool, Fail>
-    requires { NoneIsAway machine.old }
-    ensures { NoneIsAway machine.new }
+    requires home { NoneIsAway machine.old }
+    requires none { machine.old.blocks ≡ [] }
+    ensures home { NoneIsAway machine.new }
+    ensures none { machine.new.blocks ≡ [] }
 {
     for touching in events {
         if !touches(alloc, machine, *touching)? {
@@ -144,7 +150,8 @@ fn goes_so(
     events: &[Touching],
     wanted: Known,
 ) -> Result<bool, Fail>
-    requires { NoneIsAway machine.old }
+    requires home { NoneIsAway machine.old }
+    requires none { machine.old.blocks ≡ [] }
 {
     Ok(touch_all(alloc, machine, events)? && known(machine) == wanted)
 }
@@ -156,7 +163,7 @@ fn goes_from_start(
     events: &[Touching],
     wanted: Known,
 ) -> Result<bool, Fail> {
-    let mut machine = Orca::start(alloc, code, WEIGHT, trace)?;
+    let mut machine = Orca::start(alloc, code, WEIGHT, None, trace)?;
     goes_so(alloc, &mut machine, events, wanted)
 }
 

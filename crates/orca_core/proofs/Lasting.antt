@@ -24,7 +24,7 @@ use Rattle.orca_core.specs.Laws.{ComesToRest, CountsInFewBits, IsExactAtQuiet, I
 use Rattle.orca_core.specs.Machine.{IsReached, Machine}
 
 -- a whole run is never too early
-whole_run : (program : Program) (options : Options) → 0 < options.weight → (book : List Event) (s : State) → IsRun program options book s
+pub whole_run : (program : Program) (options : Options) → 0 < options.weight → (book : List Event) (s : State) → IsRun program options book s
     → IsNeverTooEarly program options book s
 whole_run program options heavy book s run =
     let z = never_too_early program options heavy book [] s (subst (λ b. IsRun program options b s) (sym (append-nil book)) run) in

@@ -1,7 +1,12 @@
+pub mod After
+pub mod Applied
+pub mod Blockless
 pub mod Enabled
 pub mod Firsts
+pub mod Kept
 pub mod Lasting
 pub mod Listing
+pub mod Naming
 pub mod Reached
 pub mod Rounds
 pub mod Untold

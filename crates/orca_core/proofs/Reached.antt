@@ -16,11 +16,13 @@ use Rattle.cell_laws.proofs.Holding.{runs_hold_the_made_only}
 use Rattle.cell_laws.proofs.Keeping.{runs_have_room, runs_have_serials}
 use Rattle.cell_laws.proofs.Reaping.{the_acknowledged_are_done}
 use Rattle.cell_laws.proofs.Taking.{runs_allow_takes}
-use Rattle.orca_core.specs.Machine.{IsReached, IsSame, Machine, ReapsNoneAway}
+use Rattle.orca_core.specs.Machine.{IsFaultOf, IsReached, IsSame, Machine, ReapsNoneAway}
 use Rattle.orca_parts.specs.declared.insides.Core.{Core}
 use Rattle.machine_rules.specs.Detect.{acked_token}
 use Rattle.orca_parts.specs.Away.{is_out, next_without}
-use Rattle.orca_parts.specs.Core.{IsAlike, KeepsCore, next_in, core_state}
+use Rattle.orca_parts.specs.Core.{IsAlike, KeepsCore, core_state}
+use Rattle.orca_parts.specs.Faults.{IsFaultWith}
+use Rattle.orca_parts.specs.Ready.{IsFaultIn}
 use Rattle.orca_parts.specs.Parts.{state_of}
 use Rattle.orca_parts.specs.Steps.{CanStep, ReapsAtHome}
 use Rattle.orca_parts.specs.declared.parts.Parts.{Parts}
@@ -52,13 +54,13 @@ module _ (m : Core) (steps : ℕ) where
   s = core_state m
 
   abbrev machine : Machine
-  machine = record { state = s; steps = steps; out = away_of parts.table.slots; kept = parts }
+  machine = record { state = s; steps = steps; out = away_of parts.table.slots; blocks = parts.blocks; kept = parts }
 
   -- a machine that is seen as young is
   pub early_still : (seen : Machine) → machine ≡ seen → seen.steps < BOOK_LIMIT → steps < BOOK_LIMIT
   early_still seen is early = omega (arith, ap (λ (x : Machine). x.steps) is, early)
 
-  same_state : (after : Core) → KeepsCore m after → core_state after ≡ s
+  pub same_state : (after : Core) → KeepsCore m after → core_state after ≡ s
   same_state after same = alike_state m after same.alike ∙ same.room.state program options
 
   -- where there is more room alone, it is reached still, and the same
@@ -66,22 +68,24 @@ module _ (m : Core) (steps : ℕ) where
   reached_still after same = subst (λ t. IsReached t steps) (sym (same_state after same))
 
   pub same_still : (after : Core) → KeepsCore m after
-      → IsSame machine (record { state = core_state after; steps = steps; out = away_of after.parts.table.slots; kept = after.parts })
-  same_still after same = record { state = same_state after same; steps = refl; out = same.room.away }
+      → IsSame machine (record { state = core_state after; steps = steps; out = away_of after.parts.table.slots; blocks = after.parts.blocks; kept = after.parts })
+  same_still after same = record { state = same_state after same; steps = refl; out = same.room.away; blocks = same.room.blocks }
 
   -- whom a reap reaps is at home still
   pub reaps_still : (after : Core) → KeepsCore m after → (e : Event) → ReapsNoneAway e machine
-      → ReapsNoneAway e (record { state = core_state after; steps = steps; out = away_of after.parts.table.slots; kept = after.parts })
+      → ReapsNoneAway e (record { state = core_state after; steps = steps; out = away_of after.parts.table.slots; blocks = after.parts.blocks; kept = after.parts })
   reaps_still after same (Reap number) none = λ t a acked member.
       subst (λ away. is_out away a ≡ false) (sym same.room.away)
       (none t a (ap (λ (x : State). acked_token number x.detector) (sym (same_state after same)) ∙ acked) member)
   reaps_still after same e none = tt
 
-  -- and an event leads to the same
-  pub next_still : (seen : Machine) → machine ≡ seen → (after : Core) → KeepsCore m after → (e : Event)
-      → next_in after e ≡ next_without seen.out seen.state e
-  next_still seen is after same e =
-      λ i. next_without ((same.room.away ∙ ap (λ (x : Machine). x.out) is) i) ((same_state after same ∙ ap (λ (x : Machine). x.state) is) i) e
+  -- and an event is refused for the same
+  pub fault_still : (seen : Machine) → machine ≡ seen → (after : Core) → KeepsCore m after → (e : Event)
+      → IsFaultIn after e ≡ IsFaultOf seen e
+  fault_still seen is after same e = λ i.
+      IsFaultWith ((same.room.blocks ∙ ap (λ (x : Machine). x.blocks) is) i)
+      ((ap (λ (x : State). x.objects) (same_state after same) ∙ ap (λ (x : Machine). x.state.objects) is) i)
+      (next_without ((same.room.away ∙ ap (λ (x : Machine). x.out) is) i) ((same_state after same ∙ ap (λ (x : Machine). x.state) is) i) e) e
 
   pub reached_more : (after : Core) (e : Event) → IsAlike m after → IsReached s steps → steps < BOOK_LIMIT
       → next s e ≡ Goes (core_state after) → IsReached (core_state after) (steps + 1)

@@ -1,7 +1,13 @@
 // The machine.
 
-ghost use Rattle.std.specs.Prelude.{◌≡◌, ◌+◌, ◌<◌, ◌≤◌, false, [], ◌∷◌, length, IfErr, IfOk, OnErr, OnOk};
+ghost use Rattle.std.specs.Prelude.{◌≡◌, ◌+◌, ◌<◌, ◌≤◌, false, [], ◌∷◌, length, unwrap_or, IfErr, IfOk, IfSome, IsSome, OnErr, OnOk};
 ghost use Rattle.orca_names.specs.declared.limits.TheConstants.{BOOK_LIMIT};
+ghost use Rattle.block_table.specs.declared.table.TheConstants.{BLOCKS_LIMIT};
+ghost use Rattle.orca_names.specs.declared.trace.Trace.TheVariants.{Deep as deep};
+ghost use Rattle.row_store.specs.Words.{SameWords, Words as words_known};
+ghost use Rattle.row_blocks.specs.Blocks.{MayPutFree};
+ghost use Rattle.block_table.specs.Blocks.{free_blocks};
+ghost use Rattle.row_laws.specs.Blocks.{blocks_after};
 ghost use Rattle.event_rule.specs.Runs.{Goes};
 ghost use Rattle.machine_rules.specs.Actors.{seat};
 ghost use Rattle.machine_rules.specs.Cell.{first_cell};
@@ -9,11 +15,11 @@ ghost use Rattle.machine_rules.specs.Next.{next};
 ghost use Rattle.machine_rules.specs.State.{first_state, start_letters};
 ghost use Rattle.letter_kinds.specs.Telling.{TellsNothing, ToldByOne};
 ghost use Rattle.actor_table.specs.Slots.{actors_of, away_of};
-ghost use Rattle.actor_table.specs.Telling.{TableTells};
-ghost use Rattle.orca_parts.specs.Away.{KeepsAway, is_out_for, next_without};
-ghost use Rattle.orca_parts.specs.Faults.{IsFault};
+ghost use Rattle.actor_table.specs.Bringing.{AreBrought};
+ghost use Rattle.actor_table.specs.Telling.{TableLies, TableTells};
+ghost use Rattle.orca_parts.specs.Away.{KeepsAway, is_out_for};
 ghost use Rattle.orca_parts.specs.Parts.{options_of};
-ghost use Rattle.orca_core.specs.Machine.{Fits, IsSame, NoneIsAway, ReapsNoneAway};
+ghost use Rattle.orca_core.specs.Machine.{Fits, HasRoomFor, IsFaultOf, IsSame, NoneIsAway, ReapsNoneAway, Stand, StandsReady};
 ghost use Rattle.orca_parts.specs.Woken.{IsLowestWoken};
 
 use actor_cell::{Cell, Sweep, Turned};
@@ -26,7 +32,7 @@ use letter_kinds::{Letter, Load, SentArgs};
 use mail_rows::MailRow;
 use orca_names::{ActorName, NoMemory, Options, Trace, Value};
 use orca_parts::{Core, Parts, Ready, StepFault, apply, prepare};
-use row_store::NoBlocks;
+use row_store::RowWords;
 use std::alloc::Global;
 use std::collections::VecDeque;
 use std::marker::Model;
@@ -62,6 +68,7 @@ impl<'a> Model for Orca<'a> {
       state = core_state m.core;
       steps = m.steps;
       out = away_of m.core.parts.table.slots;
+      blocks = m.core.parts.blocks;
       kept = m.core.parts;
     } };
 
@@ -72,6 +79,7 @@ impl<'a> Model for Orca<'a> {
 fn first_mail(alloc: Global, code: &Checked) -> Result<MailRow, NoMemory>
     ensures letters { IfOk result (λ mail. mail.letters ≡ start_letters code.now) }
     ensures untold { IfOk result (λ mail. TellsNothing (ToldByOne mail.brought)) }
+    ensures brings { IfOk result (λ mail. AreBrought mail.letters mail.brought) }
 {
     let mut mail = MailRow::new(alloc);
     if let Some(behaviour) = code.program().start_name() {
@@ -93,6 +101,7 @@ fn first_table(alloc: Global, code: &Checked) -> Result<ActorTable, NoMemory>
         ≡ seat (first_cell code.now) (start_letters code.now) ∷ []) }
     ensures home { IfOk result (λ table. away_of table.slots ≡ false ∷ []) }
     ensures untold { IfOk result (λ table. TellsNothing (TableTells table.slots)) }
+    ensures lie { IfOk result (λ table. TableLies table.slots) }
 {
     let mail = first_mail(alloc, code)?;
     let mut table = ActorTable::new(alloc);
@@ -101,9 +110,22 @@ fn first_table(alloc: Global, code: &Checked) -> Result<ActorTable, NoMemory>
     Ok(table)
 }
 
+// So many blocks, all of them free; none where rows lie at hand.
+fn first_blocks(alloc: Global, rows: Option<u32>) -> Result<BlockTable, NoMemory>
+    requires { IfSome rows (λ n. (0 < n) × (n ≤ BLOCKS_LIMIT)) }
+    ensures { IfOk result (λ blocks. blocks ≡ free_blocks (unwrap_or rows 0)) }
+{
+    match rows {
+        Some(count) => BlockTable::with_blocks(alloc, count),
+        None => Ok(BlockTable::new(alloc)),
+    }
+}
+
 impl<'a> Orca<'a> {
     /// The machine before its first event: one actor of the first kind, with the letter `start`. An
-    /// increment is by `weight`, at most 65,536.
+    /// increment is by `weight`, at most 65,536. With `rows` each row lies in one of so many blocks of words,
+    /// 1 to 65,536, all of them free; the words are handed to the calls that read or put rows. Without it
+    /// rows lie at hand, and no words are read.
     ///
     /// # Errors
     /// `NoMemory` where memory was refused.
@@ -111,24 +133,30 @@ impl<'a> Orca<'a> {
         alloc: Global,
         code: &'a Checked,
         weight: u32,
+        rows: Option<u32>,
         trace: Trace,
     ) -> Result<Orca<'a>, NoMemory>
         requires heavy { 0 < weight }
         requires light { weight ≤ 65536 }
+        requires blocks { IfSome rows (λ n. (0 < n) × (n ≤ BLOCKS_LIMIT)) }
+        requires deep { IsSome rows → trace ≡ deep }
         ensures state { IfOk result (λ m. m.state ≡ first_state code.now (options_of weight trace)) }
         ensures steps { IfOk result (λ m. m.steps ≡ 0) }
         ensures home { IfOk result NoneIsAway }
+        ensures blocks { IfOk result (λ m. m.blocks ≡ free_blocks (unwrap_or rows 0)) }
+        ensures stand { IfOk result (λ m. (known : words_known) → Stand known m) }
     {
         // The program was checked.
         let _program = code.program();
         let table = first_table(alloc, code)?;
+        let blocks = first_blocks(alloc, rows)?;
         let parts = Parts {
             table,
             detector: Detector::new(alloc),
             notes: VecDeque::new(alloc),
             prints: Vec::new(alloc),
             objects: 0,
-            blocks: BlockTable::new(alloc),
+            blocks,
             turn: Turn::new(alloc),
             turned: Turned::new(alloc),
             placed: Vec::new(alloc),
@@ -153,18 +181,28 @@ impl<'a> Orca<'a> {
     /// # Errors
     /// `NotEnabled` exactly where the event is not enabled, or is one of an actor whose cell is away;
     /// `ActorsFull` exactly where the event is a go whose act would make an actor and 65,536 are made;
-    /// `NoMemory` where memory was refused.
+    /// `NoRows` exactly where it is not, there are blocks, and its turn, which does not mint, makes more rows
+    /// than are free; `NoMemory` where memory was refused.
     #[inline(always)]
-    pub fn prepare(&mut self, alloc: Global, e: Event) -> Result<Ready, StepFault>
+    pub fn prepare<W: RowWords>(
+        &mut self,
+        alloc: Global,
+        e: Event,
+        words: &mut W,
+    ) -> Result<Ready, StepFault>
         requires early { self.old.steps < BOOK_LIMIT }
         requires home { ReapsNoneAway e self.old }
+        requires stand { Stand (W.known words.old) self.old }
         ensures same { IsSame self.old self.new }
         ensures event { IfOk result (λ ready. ready.event ≡ e) }
         ensures ok { IfOk result (λ ready. Fits ready self.new) }
         ensures home { OnOk result (is_out_for self.old.out e ≡ false) }
-        ensures fault { IfErr result (IsFault (next_without self.old.out self.old.state e) e) }
+        ensures fault { IfErr result (IsFaultOf self.old e) }
+        ensures stand { Stand (W.known words.new) self.new }
+        ensures found { IfOk result (λ ready. StandsReady (W.known words.new) ready self.new) }
+        ensures words { SameWords W.known W.places W.beside words.old words.new }
     {
-        prepare(alloc, &mut self.core, &e, false, &mut NoBlocks::default())?;
+        prepare(alloc, &mut self.core, &e, false, words)?;
         Ok(Ready { event: e })
     }
 
@@ -174,20 +212,32 @@ impl<'a> Orca<'a> {
         *self.core.parts.prints.allocator()
     }
 
-    /// Does the event that was prepared: the machine's next step is exactly that of its rules. It takes
-    /// no memory, and tells the lowest actor that gets a letter or is made by the event, `None` where
-    /// none is.
+    /// Does the event that was prepared: the machine's next step is exactly that of its rules. The rows
+    /// that a go makes are put into the lowest free blocks, where there are blocks. It takes no memory, and
+    /// tells the lowest actor that gets a letter or is made by the event, `None` where none is.
     #[inline(always)]
-    pub fn apply_ready(&mut self, ready: Ready) -> Option<ActorName>
+    pub fn apply_ready<W: RowWords>(&mut self, ready: Ready, words: &mut W) -> Option<ActorName>
         requires early { self.old.steps < BOOK_LIMIT }
         requires fits { Fits ready self.old }
+        requires stand { Stand (W.known words.old) self.old }
+        requires found { StandsReady (W.known words.old) ready self.old }
+        requires put { MayPutFree self.old.blocks (W.places words.old) }
         ensures state { next self.old.state ready.event ≡ Goes self.new.state }
         ensures steps { self.new.steps ≡ self.old.steps + 1 }
         ensures out { KeepsAway self.old.out self.new.out }
         ensures woken { IsLowestWoken self.old.state.actors self.new.state.actors result }
+        ensures blocks { self.new.blocks
+            ≡ blocks_after self.old.state ready.event self.new.state self.old.blocks }
+        ensures room { HasRoomFor self.old.state ready.event self.new.state self.old.blocks }
+        ensures stand { Stand (W.known words.new) self.new }
+        ensures places { W.places words.new ≡ W.places words.old }
+        ensures beside { W.beside words.new ≡ W.beside words.old }
     {
         let alloc = self.allocator();
-        let woken = apply(alloc, &mut self.core, ready.event, &mut NoBlocks::default());
+        // Each cell is its actor's, before and after; so is each letter what its actor names.
+        self.core.parts.table.tells_its_own();
+        let woken = apply(alloc, &mut self.core, ready.event, words);
+        self.core.parts.table.tells_its_own();
         self.steps += 1;
         woken
     }
@@ -199,19 +249,32 @@ impl<'a> Orca<'a> {
     /// # Errors
     /// As `prepare`. Nothing changes then but room.
     #[inline(always)]
-    pub fn step(&mut self, alloc: Global, e: Event) -> Result<Option<ActorName>, StepFault>
+    pub fn step<W: RowWords>(
+        &mut self,
+        alloc: Global,
+        e: Event,
+        words: &mut W,
+    ) -> Result<Option<ActorName>, StepFault>
         requires early { self.old.steps < BOOK_LIMIT }
         requires home { ReapsNoneAway e self.old }
+        requires stand { Stand (W.known words.old) self.old }
+        requires put { MayPutFree self.old.blocks (W.places words.old) }
         ensures ok { OnOk result (next self.old.state e ≡ Goes self.new.state) }
         ensures home { OnOk result (is_out_for self.old.out e ≡ false) }
         ensures steps { OnOk result (self.new.steps ≡ self.old.steps + 1) }
         ensures out { KeepsAway self.old.out self.new.out }
-        ensures fault { IfErr result (IsFault (next_without self.old.out self.old.state e) e) }
+        ensures fault { IfErr result (IsFaultOf self.old e) }
         ensures same { OnErr result (IsSame self.old self.new) }
         ensures woken { IfOk result (IsLowestWoken self.old.state.actors self.new.state.actors) }
+        ensures blocks { OnOk result (self.new.blocks
+            ≡ blocks_after self.old.state e self.new.state self.old.blocks) }
+        ensures room { OnOk result (HasRoomFor self.old.state e self.new.state self.old.blocks) }
+        ensures stand { Stand (W.known words.new) self.new }
+        ensures places { W.places words.new ≡ W.places words.old }
+        ensures beside { W.beside words.new ≡ W.beside words.old }
     {
-        let ready = self.prepare(alloc, e)?;
-        Ok(self.apply_ready(ready))
+        let ready = self.prepare(alloc, e, words)?;
+        Ok(self.apply_ready(ready, words))
     }
 
     /// What was printed, in its order.

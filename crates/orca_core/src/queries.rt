@@ -8,7 +8,8 @@ ghost use Rattle.machine_rules.specs.Actors.{seat_at};
 ghost use Rattle.machine_rules.specs.Next.{next};
 ghost use Rattle.actor_table.specs.Slots.{home_of, slot_at};
 ghost use Rattle.actor_cell.specs.Cells.{as_cell};
-ghost use Rattle.letter_kinds.specs.Telling.{TellsNothing, ToldByOne};
+ghost use Rattle.letter_kinds.specs.Telling.{ToldByOne};
+ghost use Rattle.orca_parts.specs.Blocks.{AreKept};
 ghost use Rattle.actor_cell.specs.Tells.{Tells};
 ghost use Rattle.orca_parts.specs.Away.{next_without};
 ghost use Rattle.orca_parts.specs.Parts.{state_of};
@@ -107,7 +108,7 @@ impl<'a> Orca<'a> {
     pub fn cell(&self, a: ActorName) -> Option<&Cell>
         ensures cell { option_map (λ c. as_cell c.now) result ≡ cell_here self.now a }
         ensures owner { IfSome result (λ c. c.now.heap.owner ≡ a) }
-        ensures untold { IfSome result (λ c. TellsNothing (Tells c.now)) }
+        ensures blocks { IfSome result (λ c. AreKept self.now.blocks (Tells c.now)) }
         ensures kept { option_copied result ≡ home_of (slot_at self.now.kept.table.slots a) }
     {
         self.core.parts.table.cell(a)
@@ -116,7 +117,7 @@ impl<'a> Orca<'a> {
     /// The letters that wait for an actor; `None` exactly where the actor is not present.
     pub fn mail(&self, a: ActorName) -> Option<&MailRow>
         ensures letters { option_map (λ m. m.now.letters) result ≡ mail_here self.now a }
-        ensures untold { IfSome result (λ m. TellsNothing (ToldByOne m.now.brought)) }
+        ensures blocks { IfSome result (λ m. AreKept self.now.blocks (ToldByOne m.now.brought)) }
     {
         self.core.parts.table.mail(a)
     }

@@ -17,5 +17,6 @@ pub mod Readied
 pub mod Reaping
 pub mod Reserving
 pub mod Stepped
+pub mod Swept
 pub mod Untold
 pub mod Waking

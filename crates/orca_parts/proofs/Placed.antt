@@ -78,17 +78,6 @@ placed_lie owner first made placed blocks known lie = (
       (its.is_row, its.holds),
 )
 
--- what lies in a block of one's own lies there still
-pub still_lie : (old new : Blocks) (known later : Words) → ((told : Telling) → AreKept old told → HoldsTold known told → AreKept new told × HoldsTold later told)
-    → StillLie old known new later
-still_lie old new known later others n row block lies =
-    let one : Telling = λ m r k. (m ≡ n) × (r ≡ row) × (k ≡ block) in
-    let both = others one
-    (λ m r k is. ap (slice_get old) is.2 ∙ lies.has ∙ ap (λ x. Some (Some x)) (sym is.0))
-    (λ m r k is. (subst IsRow (sym is.1) lies.is_row, subst (λ (x : Row × ℕ). HoldsRow x.1 x.0 known) (λ i. (sym is.1 i, sym is.2 i)) lies.holds)) in
-    let holds = both.1 n row block (refl, refl, refl) in
-    record { has = both.0 n row block (refl, refl, refl); is_row = holds.0; holds = holds.1 }
-
 -- ---- the letter that was found
 
 -- rows that it carries uncounted are told as before

@@ -2,6 +2,7 @@
 use Rattle.std.proofs.Common.{◌≡◌, ◌≤◌, ℕ, true, false, List, length, get_or, Option, None, Some, refl, sym, ap, subst, ◌∙◌, []}
 use Rattle.std.specs.Prelude.{IsSomeAnd, is_some}
 use Rattle.std.specs.Global.{Vec}
+use Rattle.block_table.specs.Blocks.{Blocks}
 use Rattle.std.specs.Option.{option_map_or}
 use Rattle.actor_table.proofs.Telling.{still_told}
 use Rattle.std.proofs.lemmas.Bool.{false≢true}
@@ -25,6 +26,10 @@ use Rattle.actor_table.specs.declared.slot.Place.TheVariants.{Home, Away, Gone}
 use Rattle.actor_table.specs.Changes.{HasCell}
 use Rattle.actor_table.specs.Slots.{Table, actors_of, away_of, is_away, is_away_in, places_of, seat_in, slot_at}
 use Rattle.actor_table.proofs.Changing.{away_read, seat_read}
+use Rattle.std.specs.declared.result.Result.{Result}
+use Rattle.event_rule.specs.declared.event.Event.{Event}
+use Rattle.orca_parts.specs.Ready.{Prepares}
+use Rattle.orca_parts.specs.declared.fault.StepFault.{StepFault}
 use Rattle.orca_parts.specs.declared.insides.Core.{Core}
 use Rattle.orca_parts.specs.Core.{KeepsCore}
 use Rattle.orca_parts.proofs.Homes.{place_read}
@@ -85,6 +90,18 @@ table_room m table turn actors away told lie =
 pub placed_room : (m : Parts) (placed : Vec ℕ) → OnlyRoom m (record m { placed = placed })
 placed_room m placed = record { state = λ p o. refl; away = refl; told = still_told m.table.slots; lie = λ lies. lies; blocks = refl }
 
+pub prepared_then : {T : Type 0} (e : Event) (core new : Core) (placed : Vec ℕ) (result : Result T StepFault)
+    → Prepares e (record core { parts = record core.parts { placed = placed } }) new result → Prepares e core new result
+prepared_then e core new placed result prepares = record {
+  same = record {
+    alike = record { code = prepares.same.alike.code; options = prepares.same.alike.options };
+    room = only_room_then core.parts (record core.parts { placed = placed }) new.parts (placed_room core.parts placed) prepares.same.room;
+  };
+  ok = prepares.ok;
+  fault = prepares.fault;
+  stands = prepares.stands;
+}
+
 -- what was found fits, once the memory was taken
 module _ (options : Options) (program : Program) (a : ℕ) (found : Turned) (old : List Slot) (turn : Turn) (mid : List Slot) (m : Parts) where
   -- where its cell is at home, there is room for what was found
@@ -111,12 +128,12 @@ module _ (options : Options) (program : Program) (a : ℕ) (found : Turned) (old
         room = out;
       }
 
-  pub fits_go : HasCell (slot_at old a) (IsFoundGo options program a turn found)
+  pub fits_go : (blocks : Blocks) → HasCell (slot_at old a) (IsFoundGo options program blocks a turn found)
       → actors_of mid ≡ actors_of old → away_of mid ≡ away_of old
       → HasRoomToGo (slot_at mid a) → places_of m.table.slots ≡ places_of mid → m.turn ≡ turn
       → HasRoomOut (act_in found) m → length turn.made ≤ BODY_LIMIT
       → FitsGo options program a found m
-  fits_go cell actors away room places kept out few =
+  fits_go blocks cell actors away room places kept out few =
       let c = cell.cell in
       let home : is_away (slot_at mid a) ≡ false =
       sym (away_read mid a) ∙ ap (λ bs. get_or bs a false) away ∙ away_read old a ∙ ap is_away_in cell.home in

@@ -4,6 +4,7 @@ use Rattle.std.specs.Prelude.{OnOk}
 use Rattle.std.specs.declared.result.Result.{Result}
 use Rattle.std.specs.declared.result.Result.TheVariants.{Ok, Err}
 use Rattle.row_store.specs.Words.{Words}
+use Rattle.block_table.specs.Blocks.{Blocks}
 use Rattle.event_rule.specs.declared.event.Event.{Event}
 use Rattle.letter_kinds.specs.Telling.{HoldsTold, Telling, TellsNothing, TellsOnly, Told}
 use Rattle.actor_cell.specs.declared.cell.Cell.{Cell}
@@ -29,6 +30,14 @@ pub found_holds : (known : Words) (slots : List Slot) (a : ℕ) (c : Cell) (told
     → TellsOnly (Tells c) [] told → HoldsTold known told
 found_holds known slots a c told holds home only n row block here = ⊎_elim
     (λ before. home_holds known slots a c holds home n row block before)
+    (λ none. absurd (omega (arith, none.1)))
+    (only n row block here)
+
+-- and of rows in the blocks of their objects
+pub found_kept : (blocks : Blocks) (slots : List Slot) (a : ℕ) (c : Cell) (told : Telling) → AreKept blocks (TableTells slots) → (slot_at slots a).place ≡ Home c
+    → TellsOnly (Tells c) [] told → AreKept blocks told
+found_kept blocks slots a c told kept home only n row block here = ⊎_elim
+    (λ before. kept n row block (a, inl (subst (λ p. PlaceTells p n row block) (sym home) before)))
     (λ none. absurd (omega (arith, none.1)))
     (only n row block here)
 

@@ -6,6 +6,7 @@ use Rattle.orca_names.specs.declared.names.Thing.TheVariants.{Obj}
 use Rattle.orca_names.specs.declared.trace.Trace.{Trace}
 use Rattle.orca_names.specs.declared.trace.Trace.TheVariants.{Deep}
 use Rattle.block_table.specs.Blocks.{Blocks, OneBlockEach, count_free, fill, names_from}
+use Rattle.object_heap.specs.Heap.{Has}
 use Rattle.row_blocks.specs.Blocks.{OwnAreThere, OwnLie, is_one_of, without}
 use Rattle.turn_rules.specs.Segment.{Turn}
 use Rattle.event_rule.specs.declared.event.Event.{Event}
@@ -40,6 +41,10 @@ pub record BlocksFit (trace : Trace) (blocks : Blocks) (slots : List Slot) : Typ
 pub record OwnFit (blocks : Blocks) (c : Cell) : Type 0 where
   pub lie : 0 < length blocks → OwnLie c.heap blocks
   pub there : OwnAreThere c.heap blocks
+
+-- these are objects of the cell
+abbrev pub AreThere : List ObjName → Cell → Type 0
+AreThere ns c = (i : ℕ) (n : ObjName) → slice_get ns i ≡ Some n → Has c.heap n
 
 -- its actor mints before the turn
 abbrev pub is_mint : Move → Bool

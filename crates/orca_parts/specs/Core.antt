@@ -1,5 +1,10 @@
 -- The machine's insides, as contracts see them.
-use Rattle.std.specs.Prelude.{◌≡◌, true, ⊤}
+use Rattle.std.specs.Prelude.{◌≡◌, true, IsSome, ⊤}
+use Rattle.row_store.specs.Words.{Words}
+use Rattle.letter_kinds.specs.Telling.{HoldsTold, Told}
+use Rattle.actor_cell.specs.declared.cell.Cell.{Cell}
+use Rattle.actor_cell.specs.Tells.{told_out}
+use Rattle.actor_table.specs.declared.slot.Place.TheVariants.{Home}
 use Rattle.event_rule.specs.Runs.{Step}
 use Rattle.event_rule.specs.declared.event.Event.{Event}
 use Rattle.event_rule.specs.declared.event.Event.TheVariants.{Go, Collect}
@@ -37,7 +42,14 @@ pub record KeepsCore (old new : Core) : Type 0 where
 -- what the event's actor does stands there: its turn, where it has a frame; its sweep, where it has none
 -- and is dirty; of other events nothing
 abbrev pub HasFound : Event → Core → Type 0
-HasFound (Go a) m = IsKnownGo m.options m.code.now m.parts.turn m.parts.turned
+HasFound (Go a) m = IsKnownGo m.options m.code.now m.parts.blocks m.parts.turn m.parts.turned
     (slot_at m.parts.table.slots a)
 HasFound (Collect a) m = IsKnownSweep m.options.trace m.parts.sweep (slot_at m.parts.table.slots a)
 HasFound e m = ⊤
+
+-- these words hold the rows in blocks of which the turn that stands there tells, where the event's actor
+-- has a frame
+abbrev pub HoldsFound : Words → Event → Core → Type 0
+HoldsFound known (Go a) m = (c : Cell) → (slot_at m.parts.table.slots a).place ≡ Home c
+    → IsSome c.frame → HoldsTold known (Told (told_out m.parts.turned))
+HoldsFound known e m = ⊤

@@ -4,6 +4,7 @@ use Rattle.block_table.specs.Blocks.{Blocks, count_free}
 use Rattle.event_rule.specs.Events.{actor_of}
 use Rattle.event_rule.specs.Runs.{Step, NotEnabled, IsFull, Goes}
 use Rattle.event_rule.specs.declared.event.Event.{Event}
+use Rattle.event_rule.specs.declared.event.Event.TheVariants.{Go}
 use Rattle.machine_rules.specs.State.{State}
 use Rattle.orca_parts.specs.declared.fault.StepFault.{StepFault}
 use Rattle.orca_parts.specs.declared.fault.StepFault.TheVariants as faults
@@ -15,7 +16,7 @@ RefusedBy may (faults.ActorsFull a) = ⊥
 RefusedBy may (faults.NoRows a) = ⊥
 RefusedBy may faults.NoMemory = ⊤
 
--- the fault says what the event leads to where no rows lie in blocks; want of memory says nothing
+-- the fault says what the event leads to where there are no blocks; want of memory says nothing
 abbrev pub IsFault : {S : Type 0} → Step S → Event → StepFault → Type 0
 IsFault outcome e faults.NotEnabled = outcome ≡ NotEnabled
 IsFault outcome e (faults.ActorsFull a) = (outcome ≡ IsFull) × (actor_of e ≡ Some a)
@@ -32,5 +33,5 @@ pub record LacksBlocks (blocks : Blocks) (objects : ℕ) (outcome : Step State) 
 -- the fault says what the event leads to from where so many objects were made, with these blocks
 abbrev pub IsFaultWith : Blocks → ℕ → Step State → Event → StepFault → Type 0
 IsFaultWith blocks objects outcome e (faults.NoRows a) =
-    LacksBlocks blocks objects outcome × (actor_of e ≡ Some a)
+    LacksBlocks blocks objects outcome × (e ≡ Go a)
 IsFaultWith blocks objects outcome e fault = IsFault outcome e fault

@@ -7,7 +7,8 @@ use Rattle.orca_names.specs.declared.options.Options.{Options}
 use Rattle.behaviour_code.specs.declared.code.Program.{Program}
 use Rattle.turn_rules.specs.declared.act.Frame.{Frame}
 use Rattle.letter_kinds.specs.Letters.{Inc}
-use Rattle.letter_kinds.specs.Telling.{TellsOnly, Told}
+use Rattle.letter_kinds.specs.Telling.{Told}
+use Rattle.block_table.specs.Blocks.{Blocks}
 use Rattle.orca_parts.specs.Blocks.{AreKept, HasBlocksFor}
 use Rattle.machine_rules.specs.Actors.{push_letter, seat, seat_at}
 use Rattle.turn_rules.specs.Segment.{Turn}
@@ -17,8 +18,8 @@ use Rattle.actor_cell.specs.declared.cell.Cell.{Cell}
 use Rattle.actor_cell.specs.Moves.{Move, Post, Mint, New, Print, End, Rest, act_in}
 use Rattle.actor_cell.specs.declared.turning.Turned.{Turned}
 use Rattle.actor_cell.specs.Cells.{as_cell}
-use Rattle.actor_cell.specs.Goes.{CanMove, IsTold, new_entries}
-use Rattle.actor_cell.specs.Tells.{Tells, told_out}
+use Rattle.actor_cell.specs.Goes.{CanMove, IsTold, new_entries, out_of}
+use Rattle.actor_cell.specs.Tells.{told_out}
 use Rattle.actor_table.specs.declared.slot.Slot.{Slot}
 use Rattle.actor_table.specs.declared.slot.Place.TheVariants.{Home}
 use Rattle.actor_table.specs.Slots.{actors_of, slot_at}
@@ -39,16 +40,17 @@ HasRoomOut (Print value) m = vec_len m.prints < vec_capacity m.prints
 HasRoomOut End m = ⊤
 HasRoomOut Rest m = ⊤
 
--- this was found of the turn of the cell, which has a frame, and tells no more of rows in blocks than it
-abbrev pub IsFoundGo : Options → Program → ℕ → Turn → Turned → Cell → Type 0
-IsFoundGo options program a turn found c =
+-- this was found of the turn of the cell, which has a frame, and tells of rows in the blocks of their
+-- objects
+abbrev pub IsFoundGo : Options → Program → Blocks → ℕ → Turn → Turned → Cell → Type 0
+IsFoundGo options program blocks a turn found c =
     IsSomeAnd c.frame (IsTold options program a (as_cell c) turn found.place (act_in found))
-    × TellsOnly (Tells c) [] (Told (told_out found))
+    × AreKept blocks (Told (told_out found))
 
 -- this is known of the turn of the cell at home, where it has a frame
-abbrev pub IsKnownGo : Options → Program → Turn → Turned → Slot → Type 0
-IsKnownGo options program turn found x =
-    (c : Cell) → x.place ≡ Home c → IsSome c.frame → IsFoundGo options program c.heap.owner turn found c
+abbrev pub IsKnownGo : Options → Program → Blocks → Turn → Turned → Slot → Type 0
+IsKnownGo options program blocks turn found x = (c : Cell) → x.place ≡ Home c → IsSome c.frame
+    → IsFoundGo options program blocks c.heap.owner turn found c
 
 -- this was found of the actor's turn, and there is room for it
 pub record FitsGo (options : Options) (program : Program) (a : ℕ) (found : Turned)
@@ -63,12 +65,20 @@ pub record FitsGo (options : Options) (program : Program) (a : ℕ) (found : Tur
   pub entries : new_entries (act_in found) cell.foreign.entries ≤ cell.foreign.spare
   pub room : HasRoomOut (act_in found) m
 
+-- where what was found makes an actor, fewer are made than there may be
+abbrev pub MakesInLimit : Parts → Type 0
+MakesInLimit m = IsSome (out_of (act_in m.turned)).made → length m.table.slots < ACTORS_LIMIT
+
+-- where there are blocks, there is memory to tell which of them the rows of the turn get
+abbrev pub HasRoomToPlace : Parts → Type 0
+HasRoomToPlace m = 0 < length m.blocks → length m.turn.made ≤ vec_capacity m.placed
+
 -- what was found of a turn tells of rows in the blocks of their objects, and there are blocks for those
 -- that it makes, and memory to tell which
 pub record FitsPlaces (m : Parts) : Type 0 where
   pub kept : AreKept m.blocks (Told (told_out m.turned))
   pub blocks : HasBlocksFor (act_in m.turned) m
-  pub room : 0 < length m.blocks → length m.turn.made ≤ vec_capacity m.placed
+  pub room : HasRoomToPlace m
 
 -- the actor's counts and serials allow it, and it holds nothing of the actor that is made next
 pub record CountsAllow (a : ℕ) (act : Move) (parts : Parts) (c : Cell) : Type 0 where

@@ -1,8 +1,9 @@
 -- What becomes of the rows that a turn made.
-use Rattle.std.specs.Prelude.{ℕ, ◌≡◌, ◌+◌, ◌<◌, ◌^◌, true, length}
+use Rattle.std.specs.Prelude.{ℕ, ◌≡◌, ◌+◌, ◌<◌, ◌^◌, ⊤, true, length}
 use Rattle.row_store.specs.Words.{Words}
+use Rattle.block_table.specs.Blocks.{count_free}
 use Rattle.row_blocks.specs.Blocks.{StillLie}
-use Rattle.orca_parts.specs.Blocks.{AreKept, blocks_by, is_mint}
+use Rattle.orca_parts.specs.Blocks.{AreKept, blocks_by, is_mint, rows_kept}
 use Rattle.event_rule.specs.declared.event.Event.TheVariants.{Go}
 use Rattle.letter_kinds.specs.Load.{HaveGiven}
 use Rattle.letter_kinds.specs.Telling.{HoldsTold, TellsOnly, Told, made_in}
@@ -12,6 +13,8 @@ use Rattle.actor_cell.specs.declared.cell.Cell.{Cell}
 use Rattle.actor_table.specs.declared.slot.Place.TheVariants.{Home}
 use Rattle.actor_table.specs.Slots.{slot_at}
 use Rattle.orca_parts.specs.Ready.{made_by}
+use Rattle.orca_parts.specs.declared.fault.StepFault.{StepFault}
+use Rattle.orca_parts.specs.declared.fault.StepFault.TheVariants as faults
 use Rattle.orca_parts.specs.declared.parts.Parts.{Parts}
 
 -- the actor's cell is at home, there are serials for the rows that its turn made, and where there are
@@ -23,8 +26,8 @@ pub record HasMade (a : ℕ) (m : Parts) : Type 0 where
   pub loads : 0 < length m.blocks
       → HaveGiven a cell.heap.next m.turn.made (where_sent m.turned.doing m.turned.load)
 
--- the rows that the turn of an actor made lie in the lowest free blocks, where it keeps them, and the
--- letter that was found tells so; the words hold them there, and other rows where these lay
+-- the rows that the turn of an actor made lie in the lowest free blocks, where it keeps them, and of these
+-- the letter that was found tells no other; the words hold them there, and other rows where these lay
 pub record Places (a : ℕ) (old new : Parts) (known later : Words) : Type 0 where
   pub same : new ≡ record old {
     blocks = new.blocks;
@@ -43,3 +46,10 @@ pub record Places (a : ℕ) (old new : Parts) (known later : Words) : Type 0 whe
   pub kept : AreKept new.blocks (Told (made_by (Go a) old new.placed.items))
   pub holds : HoldsTold later (Told (made_by (Go a) old new.placed.items))
   pub others : StillLie old.blocks known new.blocks later
+
+-- memory was refused; or there are blocks, and the actor keeps more rows of its turn than are free
+abbrev pub IsLack : ℕ → Parts → StepFault → Type 0
+IsLack a m (faults.NoRows actor) = (actor ≡ a) × (0 < length m.blocks)
+    × (count_free m.blocks < length (rows_kept (act_in m.turned) m.turn))
+IsLack a m faults.NoMemory = ⊤
+IsLack a m fault = ⊥

@@ -18,12 +18,12 @@ ghost use Rattle.orca_parts.specs.Ready.{Applies, Prepares};
 use crate::fault::StepFault;
 use crate::insides::Core;
 use crate::letters::{push_decs, reserve_each};
+use crate::placing::give_back_some;
 use actor_cell::Sweep;
 use actor_table::{ActorTable, Collect};
 use event_rule::Event;
 use orca_names::{ActorName, Trace};
 use plain_list::Listed;
-use row_blocks::give_back_freed;
 use row_store::RowWords;
 use std::alloc::Global;
 use std::mem;
@@ -100,12 +100,10 @@ pub(crate) fn apply_collect(alloc: Global, m: &mut Core<'_>, a: ActorName) -> Op
     ensures { Applies (collect_event a) m.old m.new result }
 {
     m.stands = false;
-    let Some(cell) = m.parts.table.cell(a) else {
-        unreachable!();
-    };
-    give_back_freed(
+    give_back_some(
         &mut m.parts.blocks,
-        &cell.heap,
+        &m.parts.table,
+        a,
         m.parts.sweep.plan.free.as_slice(),
     );
     let change = Collect {

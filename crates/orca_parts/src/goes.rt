@@ -24,12 +24,12 @@ ghost use Rattle.actor_table.specs.Telling.{TableLies, TableTells};
 ghost use Rattle.orca_parts.specs.Away.{KeepsAway};
 ghost use Rattle.row_store.specs.Words.{SameWords};
 ghost use Rattle.row_blocks.specs.Blocks.{MayPutFree};
-ghost use Rattle.orca_parts.specs.Blocks.{AreKept, BlocksFit};
+ghost use Rattle.orca_parts.specs.Blocks.{AreKept, BlocksFit, HasBlocksFor};
 ghost use Rattle.orca_parts.specs.Awaiting.{AwaitsMinted, IsAwaited};
 ghost use Rattle.orca_parts.specs.Faults.{RefusedBy};
 ghost use Rattle.orca_parts.specs.Fits.{KeepsTurn, OnlyRoom};
-ghost use Rattle.orca_parts.specs.Goes.{CountsAllow, FitsGo, FitsPlaces, HasRoomForOne, HasRoomOut, IsFoundGo, given};
-ghost use Rattle.orca_parts.specs.Core.{HasFound, StandsWell};
+ghost use Rattle.orca_parts.specs.Goes.{CountsAllow, FitsGo, FitsPlaces, HasRoomForOne, HasRoomOut, HasRoomToPlace, IsFoundGo, MakesInLimit, given};
+ghost use Rattle.orca_parts.specs.Core.{HasFound, HoldsFound, StandsWell};
 ghost use Rattle.orca_parts.specs.Letters.{Posts};
 ghost use Rattle.orca_parts.specs.Parts.{state_of};
 ghost use Rattle.orca_parts.specs.Ready.{Applies, Lies, Prepares};
@@ -39,7 +39,7 @@ use crate::fault::StepFault;
 use crate::insides::Core;
 use crate::letters::post;
 use crate::parts::Parts;
-use crate::placing::{lacks_blocks, place_made, reserve_placed};
+use crate::placing::{place_made, reserve_placed};
 use actor_cell::{Cell, Doing, Turned};
 use actor_table::{ActorTable, Go};
 use behaviour_check::Checked;
@@ -54,10 +54,11 @@ use std::alloc::Global;
 // Takes the memory for what the act that was found gives out.
 #[inline(always)]
 fn reserve_out(alloc: Global, parts: &mut Parts) -> Result<(), NoMemory>
-    requires { IsSome (out_of (act_in parts.old.turned)).made → length parts.old.table.slots < ACTORS_LIMIT }
+    requires { MakesInLimit parts.old }
     ensures same { OnlyRoom parts.old parts.new }
     ensures places { places_of parts.new.table.slots ≡ places_of parts.old.table.slots }
     ensures turn { KeepsTurn parts.old parts.new }
+    ensures placed { parts.new.placed ≡ parts.old.placed }
     ensures ok { OnOk result (HasRoomOut (act_in parts.old.turned) parts.new) }
 {
     match &parts.turned.doing {
@@ -89,23 +90,19 @@ fn makes(found: &Turned) -> bool
     )
 }
 
-// Takes all memory for what was found of the actor's turn; the state stays as it was.
+// Takes the memory for what was found of the actor's turn, but for its blocks; the state stays as it was.
 #[tactic(auto, using(crate::proofs::Preparing::no_memory, crate::proofs::Preparing::only_room))]
 #[inline(always)]
-fn prepare_turn(alloc: Global, m: &mut Core<'_>, a: ActorName) -> Result<(), StepFault>
+fn reserve_turn(alloc: Global, m: &mut Core<'_>, a: ActorName) -> Result<(), StepFault>
     requires few { length m.old.parts.turn.made ≤ BODY_LIMIT }
     requires found { HasCell (slot_at m.old.parts.table.slots a)
-        (IsFoundGo m.old.options m.old.code.now a m.old.parts.turn m.old.parts.turned) }
-    requires kept { AreKept m.old.parts.blocks (TableTells m.old.parts.table.slots) }
+        (IsFoundGo m.old.options m.old.code.now m.old.parts.blocks a m.old.parts.turn m.old.parts.turned) }
+    requires limit { MakesInLimit m.old.parts }
+    requires blocks { HasBlocksFor (act_in m.old.parts.turned) m.old.parts }
+    requires placed { HasRoomToPlace m.old.parts }
     ensures prepares { Prepares (go_event a) m.old m.new result }
     ensures sends { told_out m.new.parts.turned ≡ told_out m.old.parts.turned }
 {
-    if makes(&m.parts.turned) && m.parts.table.len() >= ACTORS_LIMIT {
-        return Err(StepFault::ActorsFull { actor: a });
-    }
-    if lacks_blocks(&m.parts) {
-        return Err(StepFault::NoRows { actor: a });
-    }
     let change = Go {
         turn: &m.parts.turn,
         found: &m.parts.turned,
@@ -115,8 +112,24 @@ fn prepare_turn(alloc: Global, m: &mut Core<'_>, a: ActorName) -> Result<(), Ste
     };
     m.parts.table.reserve(a, &change)?;
     reserve_out(alloc, &mut m.parts)?;
-    reserve_placed(&mut m.parts)?;
     Ok(())
+}
+
+// Takes all memory for what was found of the actor's turn; the state stays as it was.
+#[tactic(auto, using(crate::proofs::Preparing::only_room))]
+#[inline(always)]
+fn prepare_turn(alloc: Global, m: &mut Core<'_>, a: ActorName) -> Result<(), StepFault>
+    requires few { length m.old.parts.turn.made ≤ BODY_LIMIT }
+    requires found { HasCell (slot_at m.old.parts.table.slots a)
+        (IsFoundGo m.old.options m.old.code.now m.old.parts.blocks a m.old.parts.turn m.old.parts.turned) }
+    ensures prepares { Prepares (go_event a) m.old m.new result }
+    ensures sends { told_out m.new.parts.turned ≡ told_out m.old.parts.turned }
+{
+    if makes(&m.parts.turned) && m.parts.table.len() >= ACTORS_LIMIT {
+        return Err(StepFault::ActorsFull { actor: a });
+    }
+    reserve_placed(&mut m.parts, a)?;
+    reserve_turn(alloc, m, a)
 }
 
 // Finds the actor's turn, where it is not known. Where what was found last stands and awaits a letter of
@@ -132,15 +145,18 @@ fn find_turn<W: RowWords>(
     requires serials { (c : a_cell) → (slot_at m.old.parts.table.slots a).place ≡ Home c
         → c.heap.next + BODY_LIMIT < 2 ^ 64 }
     requires stands { StandsWell m.old }
+    requires kept { AreKept m.old.parts.blocks (TableTells m.old.parts.table.slots) }
     requires hold { HoldsTold (W.known words.old) (TableTells m.old.parts.table.slots) }
     requires known { known ≡ true → HasFound (go_event a) m.old }
+    requires holds { known ≡ true → HoldsFound (W.known words.old) (go_event a) m.old }
     ensures same { m.new ≡ record m.old {
       parts = record m.old.parts { turn = m.new.parts.turn; turned = m.new.parts.turned };
       stands = m.new.stands;
     } }
     ensures stands { StandsWell m.new }
     ensures found { OnOk result (HasCell (slot_at m.old.parts.table.slots a)
-        (IsFoundGo m.old.options m.old.code.now a m.new.parts.turn m.new.parts.turned)) }
+        (IsFoundGo m.old.options m.old.code.now m.old.parts.blocks a m.new.parts.turn m.new.parts.turned)) }
+    ensures hold { OnOk result (HoldsTold (W.known words.new) (Told (told_out m.new.parts.turned))) }
     ensures few { OnOk result (length m.new.parts.turn.made ≤ BODY_LIMIT) }
     ensures fault { IfErr result (RefusedBy (may_event (go_event a) (slot_at m.old.parts.table.slots a))) }
     ensures words { SameWords W.known W.places W.beside words.old words.new }
@@ -191,6 +207,7 @@ pub(crate) fn prepare_go<W: RowWords>(
     requires kept { AreKept m.old.parts.blocks (TableTells m.old.parts.table.slots) }
     requires hold { HoldsTold (W.known words.old) (TableTells m.old.parts.table.slots) }
     requires known { known ≡ true → HasFound (go_event a) m.old }
+    requires holds { known ≡ true → HoldsFound (W.known words.old) (go_event a) m.old }
     ensures prepares { Prepares (go_event a) m.old m.new result }
     ensures words { SameWords W.known W.places W.beside words.old words.new }
     ensures hold { OnOk result (HoldsTold (W.known words.new) (Told (told_out m.new.parts.turned))) }
@@ -337,7 +354,7 @@ pub(crate) fn apply_go<W: RowWords>(
     ensures places { W.places words.new ≡ W.places words.old }
     ensures beside { W.beside words.new ≡ W.beside words.old }
 {
-    place_made(&mut m.parts, a, words);
+    place_made(m, a, words);
     let change = Go {
         turn: &m.parts.turn,
         found: &m.parts.turned,

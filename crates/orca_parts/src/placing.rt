@@ -1,66 +1,68 @@
 // The rows that a turn made go into blocks.
 
-ghost use Rattle.std.specs.Prelude.{◌≡◌, ◌+◌, ◌==◌, ◌<◌, ◌≤◌, ◌^◌, ℕ, false, true, length, IsTrue, OnOk, vec_capacity};
+ghost use Rattle.std.specs.Prelude.{◌≡◌, ◌+◌, ◌==◌, ◌<◌, ◌≤◌, ℕ, false, true, length, IfErr, OnOk};
 ghost use Rattle.std.specs.List.Sorted.{IsStrictlySortedBy};
 ghost use Rattle.std.specs.Ordering.{nat_cmp};
-ghost use Rattle.block_table.specs.Blocks.{count_free};
-ghost use Rattle.row_blocks.specs.Blocks.{MayPutFree, without};
+ghost use Rattle.object_heap.specs.Free.{SerialsRise};
+ghost use Rattle.row_blocks.specs.Blocks.{MayPutFree, is_one_of, without};
 ghost use Rattle.letter_kinds.specs.Detector.{has};
 ghost use Rattle.actor_cell.specs.Moves.{act_in};
 ghost use Rattle.actor_table.specs.Changes.{HasCell};
 ghost use Rattle.actor_table.specs.Slots.{slot_at};
-ghost use Rattle.orca_parts.specs.Blocks.{HasBlocksFor, OwnFit, is_mint, rows_kept};
-ghost use Rattle.orca_parts.specs.Goes.{FitsPlaces};
-ghost use Rattle.orca_parts.specs.Placing.{HasMade, Places};
+ghost use Rattle.orca_parts.specs.Blocks.{AreThere, HasBlocksFor, OwnFit, is_mint};
+ghost use Rattle.orca_parts.specs.Goes.{FitsPlaces, HasRoomToPlace};
+ghost use Rattle.orca_parts.specs.Placing.{HasMade, IsLack, Places};
 
+use crate::fault::StepFault;
+use crate::insides::Core;
 use crate::parts::Parts;
 use actor_cell::{Doing, Turned};
 use actor_table::ActorTable;
 use block_table::BlockTable;
-use orca_names::{ActorName, NoMemory};
-use row_blocks::{give_back_all, place_rows};
+use orca_names::{ActorName, ObjName};
+use row_blocks::{give_back_all, give_back_freed, place_rows};
 use row_store::RowWords;
 
 // Whether the actor mints before its turn.
+#[inline(always)]
 fn mints(found: &Turned) -> bool
     ensures { result ≡ is_mint (act_in found.now) }
 {
     matches!(found.doing, Doing::Mint { owner: _ })
 }
 
-/// Whether there are blocks, and the turn makes more rows than are free.
-pub(crate) fn lacks_blocks(parts: &Parts) -> bool
-    ensures no { result ≡ false → HasBlocksFor (act_in parts.now.turned) parts.now }
-    ensures yes { IsTrue result → (0 < length parts.now.blocks)
-        × (count_free parts.now.blocks < length (rows_kept (act_in parts.now.turned) parts.now.turn)) }
-{
-    if parts.blocks.len() == 0 || mints(&parts.turned) {
-        return false;
-    }
-    parts.blocks.count_free() < parts.turn.made().len()
-}
-
 /// Takes the memory to tell which blocks the rows of the turn get, where there are blocks.
 ///
 /// # Errors
-/// `NoMemory` where memory was refused.
-pub(crate) fn reserve_placed(parts: &mut Parts) -> Result<(), NoMemory>
+/// `NoRows` exactly where there are blocks, and the actor keeps more rows than are free; `NoMemory` where
+/// memory was refused.
+#[inline(always)]
+pub(crate) fn reserve_placed(parts: &mut Parts, a: ActorName) -> Result<(), StepFault>
     ensures same { parts.new ≡ record parts.old { placed = parts.new.placed } }
-    ensures ok { OnOk result (0 < length parts.old.blocks
-        → length parts.old.turn.made ≤ vec_capacity parts.new.placed) }
+    ensures blocks { OnOk result (HasBlocksFor (act_in parts.old.turned) parts.old) }
+    ensures room { OnOk result (HasRoomToPlace parts.new) }
+    ensures fault { IfErr result (IsLack a parts.old) }
 {
     if parts.blocks.len() == 0 {
         return Ok(());
     }
+    let count = parts.turn.made().len();
+    if !mints(&parts.turned) && parts.blocks.count_free() < count {
+        return Err(StepFault::NoRows { actor: a });
+    }
     parts.placed.clear();
-    Ok(parts.placed.reserve(parts.turn.made().len())?)
+    Ok(parts.placed.reserve(count)?)
 }
 
 /// The blocks of an actor's objects are free: the actor goes.
+#[inline(always)]
 pub(crate) fn give_back(blocks: &mut BlockTable, table: &ActorTable, a: ActorName)
     requires { HasCell (slot_at table.now.slots a) (λ c. c.heap.owner ≡ a → OwnFit blocks.old c) }
     ensures { blocks.new ≡ without (λ n. n.owner == a) blocks.old }
 {
+    if blocks.len() == 0 {
+        return;
+    }
     let Some(cell) = table.cell(a) else {
         unreachable!();
     };
@@ -79,20 +81,42 @@ pub(crate) fn give_back_each(blocks: &mut BlockTable, table: &ActorTable, member
     }
 }
 
-/// The rows that the actor's turn made go into the lowest free blocks, where there are blocks and it
-/// keeps them; the letter that was found tells so. It takes no memory.
-pub(crate) fn place_made<W: RowWords>(parts: &mut Parts, a: ActorName, words: &mut W)
-    requires made { HasMade a parts.old }
-    requires room { FitsPlaces parts.old }
-    requires put { MayPutFree parts.old.blocks (W.places words.old) }
-    ensures places { Places a parts.old parts.new (W.known words.old) (W.known words.new) }
+/// The blocks of these objects of the actor, whose serials rise, are free.
+#[inline(always)]
+pub(crate) fn give_back_some(
+    blocks: &mut BlockTable,
+    table: &ActorTable,
+    a: ActorName,
+    gone: &[ObjName],
+)
+    requires rising { SerialsRise gone.now }
+    requires home { HasCell (slot_at table.now.slots a) (λ c. c.heap.owner ≡ a
+        → OwnFit blocks.old c × AreThere gone.now c) }
+    ensures { blocks.new ≡ without (is_one_of gone.now) blocks.old }
+{
+    if blocks.len() == 0 {
+        return;
+    }
+    let Some(cell) = table.cell(a) else {
+        unreachable!();
+    };
+    give_back_freed(blocks, &cell.heap, gone);
+}
+
+// The rows that the actor's turn made go into the lowest free blocks; the letter that was found tells so.
+#[inline(never)]
+fn place_in_blocks<W: RowWords>(m: &mut Core<'_>, a: ActorName, words: &mut W)
+    requires some { 0 < length m.old.parts.blocks }
+    requires kept { is_mint (act_in m.old.parts.turned) ≡ false }
+    requires made { HasMade a m.old.parts }
+    requires room { FitsPlaces m.old.parts }
+    requires put { MayPutFree m.old.parts.blocks (W.places words.old) }
+    ensures same { m.new ≡ record m.old { parts = m.new.parts } }
+    ensures places { Places a m.old.parts m.new.parts (W.known words.old) (W.known words.new) }
     ensures words { W.places words.new ≡ W.places words.old }
     ensures beside { W.beside words.new ≡ W.beside words.old }
 {
-    parts.placed.clear();
-    if parts.blocks.len() == 0 || mints(&parts.turned) {
-        return;
-    }
+    let parts = &mut m.parts;
     let Some(cell) = parts.table.cell(a) else {
         unreachable!();
     };
@@ -109,4 +133,23 @@ pub(crate) fn place_made<W: RowWords>(parts: &mut Parts, a: ActorName, words: &m
             .load
             .lie_in(a, first, made, parts.placed.as_slice());
     }
+}
+
+/// The rows that the actor's turn made go into the lowest free blocks, where there are blocks and it
+/// keeps them; the letter that was found tells so. It takes no memory.
+#[inline(always)]
+pub(crate) fn place_made<W: RowWords>(m: &mut Core<'_>, a: ActorName, words: &mut W)
+    requires made { HasMade a m.old.parts }
+    requires room { FitsPlaces m.old.parts }
+    requires put { MayPutFree m.old.parts.blocks (W.places words.old) }
+    ensures same { m.new ≡ record m.old { parts = m.new.parts } }
+    ensures places { Places a m.old.parts m.new.parts (W.known words.old) (W.known words.new) }
+    ensures words { W.places words.new ≡ W.places words.old }
+    ensures beside { W.beside words.new ≡ W.beside words.old }
+{
+    if m.parts.blocks.len() == 0 || mints(&m.parts.turned) {
+        m.parts.placed.clear();
+        return;
+    }
+    place_in_blocks(m, a, words);
 }

@@ -6,7 +6,7 @@ ghost use Rattle.row_store.specs.Words.{SameWords};
 ghost use Rattle.row_blocks.specs.Blocks.{MayPutFree};
 ghost use Rattle.orca_parts.specs.Blocks.{AreKept, BlocksFit};
 ghost use Rattle.actor_table.specs.Telling.{TableTells};
-ghost use Rattle.orca_parts.specs.Core.{HasFound, StandsWell};
+ghost use Rattle.orca_parts.specs.Core.{HasFound, HoldsFound, StandsWell};
 ghost use Rattle.orca_parts.specs.Ready.{Applies, FitsEvent, Lies, Prepares, told_first};
 ghost use Rattle.orca_parts.specs.Steps.{CanStep, ReapsAtHome};
 
@@ -44,6 +44,7 @@ pub fn prepare<W: RowWords>(
     requires can { CanStep m.old.options m.old.code.now m.old.parts e.now }
     requires home { ReapsAtHome e.now m.old.parts }
     requires known { known ≡ true → HasFound e.now m.old }
+    requires holds { known ≡ true → HoldsFound (W.known words.old) e.now m.old }
     requires stands { StandsWell m.old }
     requires kept { AreKept m.old.parts.blocks (TableTells m.old.parts.table.slots) }
     requires hold { HoldsTold (W.known words.old) (TableTells m.old.parts.table.slots) }

@@ -83,9 +83,9 @@ in_order_on next s t u (e ∷ book) later h on = (h.0, (h.1.0, h.1.1, in_order_o
 -- one worker goes on with it
 pub goes_on_under_way : (order : Order) (program : Program) (m n : Orca) (book longer : BookValue) → IsUnderWay order program m book
     → IsRunOf n longer.entries → n.state.program ≡ m.state.program → n.state.options ≡ m.state.options
-    → (longer.weight ≡ book.weight) × (longer.trace ≡ book.trace) → length longer.entries ≤ order.budget → NoneIsAway n
+    → (longer.weight ≡ book.weight) × (longer.trace ≡ book.trace) → length longer.entries ≤ order.budget → NoneIsAway n → n.blocks ≡ []
     → GoesOnTo m.state book.entries n.state longer.entries → IsUnderWay order program n longer
-goes_on_under_way order program m n book longer h run same_program same_options same within home on = record {
+goes_on_under_way order program m n book longer h run same_program same_options same within home none on = record {
   program_is = same_program ∙ h.program_is;
   run = run;
   options = same_options ∙ h.options;
@@ -93,6 +93,7 @@ goes_on_under_way order program m n book longer h run same_program same_options 
   trace = same.1 ∙ h.trace;
   within = within;
   home = home;
+  none = none;
   in_order = λ single. subst (λ (b : List Event). LeadsInOrder next (first_state program (options_in order)) b n.state) (sym on.added)
       (in_order_on next (first_state program (options_in order)) m.state n.state book.entries on.later (h.in_order single) on.leads);
 }

@@ -43,7 +43,7 @@ IsAnswerOf ends.NoMemory answer = answer ≡ None
 -- ---- a run begins
 
 -- the book is a run of the program as the order wants it, and led to this machine, which has all its
--- cells
+-- cells and no blocks
 pub record IsUnderWay (order : Order) (program : Program) (m : Machine) (book : BookValue)
     : Type 0 where
   pub program_is : m.state.program ≡ program
@@ -53,6 +53,7 @@ pub record IsUnderWay (order : Order) (program : Program) (m : Machine) (book : 
   pub trace : book.trace ≡ order.trace
   pub within : length book.entries ≤ order.budget
   pub home : NoneIsAway m
+  pub none : m.blocks ≡ []
   pub in_order : order.workers ≡ 1
       → LeadsInOrder next (first_state program (options_in order)) book.entries m.state
 

@@ -1,6 +1,6 @@
 // The report of a run, and that of an audit.
 
-ghost use Rattle.std.specs.Prelude.{◌≡◌, ◌≤◌, count_by, length, not, option_map, IfOk};
+ghost use Rattle.std.specs.Prelude.{◌≡◌, ◌≤◌, [], count_by, length, not, option_map, IfOk};
 ghost use Rattle.orca_names.specs.declared.limits.TheConstants.{BOOK_LIMIT};
 ghost use Rattle.report_text.specs.Ends.{IsEnd};
 ghost use Rattle.orca_core.specs.Laws.{IsRunOf};
@@ -94,6 +94,7 @@ fn whys(
     book: &Book,
 ) -> Result<Vec<u8>, NoMemory>
     requires home { NoneIsAway orca.now }
+    requires none { orca.now.blocks ≡ [] }
     requires program { orca.now.state.program ≡ code.now }
     requires options { orca.now.state.options ≡ options_of book.now.weight book.now.trace }
     requires run { IsRunOf orca.now book.now.entries }
@@ -126,6 +127,7 @@ pub(crate) fn report_of_run(
 ) -> Result<Vec<u8>, NoMemory>
     requires end { IsEnd end.now }
     requires home { NoneIsAway orca.now }
+    requires none { orca.now.blocks ≡ [] }
     requires program { orca.now.state.program ≡ code.now }
     requires options { orca.now.state.options ≡ options_of book.now.weight book.now.trace }
     requires run { IsRunOf orca.now book.now.entries }

@@ -119,7 +119,7 @@ pub(crate) fn run_by_one<K: Sink>(
     ensures { RunAnswers order.now code.now (sides K.written K.faults sink.old sink.new)
         result.book result.status }
 {
-    match Orca::start(alloc, code, order.weight, order.trace) {
+    match Orca::start(alloc, code, order.weight, None, order.trace) {
         Ok(orca) => {
             let book = Book::new(alloc, order.weight, order.trace);
             end_run(alloc, order, code, orca, book, sink)

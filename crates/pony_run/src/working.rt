@@ -1,6 +1,6 @@
 // Several workers run a program, over a hall whose cells move out to them.
 
-ghost use Rattle.std.specs.Prelude.{◌≡◌, ◌≤◌, All, IfOk, length};
+ghost use Rattle.std.specs.Prelude.{◌≡◌, ◌≤◌, [], All, IfOk, length};
 ghost use Rattle.word_line.specs.Orders.{IsInRange};
 ghost use Rattle.orca_core.specs.Laws.{IsRunOf};
 ghost use Rattle.orca_core.specs.Machine.{NoneIsAway};
@@ -54,7 +54,7 @@ fn take_in<'a>(first: &mut SeatPass<'_, 'a>, passes: Vec<SeatPass<'_, 'a>>)
 }
 
 /// What the workers make of a program: the machine, and the book that led to it. Each worker has a pass
-/// of its own; the first pass waits for them and ends the hall.
+/// of its own; the first pass waits for them and ends the hall. The machine has no blocks.
 pub(crate) fn run_in<'a, R: AllocGlobal + Threads + Wait + Sync, G: Gate + Sync>(
     rt: &R,
     order: &Order,
@@ -64,6 +64,7 @@ pub(crate) fn run_in<'a, R: AllocGlobal + Threads + Wait + Sync, G: Gate + Sync>
     requires range { IsInRange order.now }
     ensures run { IfOk result (λ parts. IsRunOf parts.0 parts.1.entries) }
     ensures home { IfOk result (λ parts. NoneIsAway parts.0) }
+    ensures none { IfOk result (λ parts. parts.0.blocks ≡ []) }
     ensures program { IfOk result (λ parts. parts.0.state.program ≡ code.now) }
     ensures options { IfOk result
         (λ parts. parts.0.state.options ≡ record { weight = order.now.weight; trace = order.now.trace }) }
@@ -82,7 +83,7 @@ pub(crate) fn run_in<'a, R: AllocGlobal + Threads + Wait + Sync, G: Gate + Sync>
         Closing::Whole(orca, book) => Ok((orca, book)),
         // A call that never returned has the hall, or a cell of it: the run begins anew.
         Closing::Turning { .. } | Closing::Lent { .. } => {
-            let orca = Orca::start(alloc, code, order.weight, order.trace)?;
+            let orca = Orca::start(alloc, code, order.weight, None, order.trace)?;
             Ok((orca, Book::new(alloc, order.weight, order.trace)))
         }
     }

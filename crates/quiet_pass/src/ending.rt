@@ -1,6 +1,6 @@
 // One worker goes on until a run ends.
 
-ghost use Rattle.std.specs.Prelude.{◌≡◌, ◌≢◌, ◌<◌, ◌≤◌, ◌+◌, ◌++◌, ◌∷◌, [], ℕ, length, IfErr, OnErr, OnOk};
+ghost use Rattle.std.specs.Prelude.{◌≡◌, ◌≢◌, ◌<◌, ◌≤◌, ◌+◌, ◌++◌, ◌∷◌, ℕ, [], length, IfErr, OnErr, OnOk};
 ghost use Rattle.orca_names.specs.declared.limits.TheConstants.{BOOK_LIMIT};
 ghost use Rattle.event_rule.specs.Runs.{Goes};
 ghost use Rattle.machine_rules.specs.Next.{next};
@@ -12,6 +12,7 @@ ghost use Rattle.quiet_pass.specs.Ends.{EndsSo, GoesOnTo, IsEndOf};
 use event_rule::Event;
 use orca_core::{Orca, StepFault};
 use orca_names::ActorName;
+use row_store::NoBlocks;
 use run_book::Book;
 use std::alloc::Global;
 
@@ -32,10 +33,12 @@ pub enum End {
 fn step(alloc: Global, orca: &mut Orca<'_>, book: &mut Book, e: &Event) -> Result<(), StepFault>
     requires early { orca.old.steps < BOOK_LIMIT }
     requires home { NoneIsAway orca.old }
+    requires none { orca.old.blocks ≡ [] }
     ensures ok { OnOk result (next orca.old.state e.now ≡ Goes orca.new.state) }
     ensures steps { OnOk result (orca.new.steps ≡ orca.old.steps + 1) }
     ensures entry { OnOk result (book.new.entries ≡ book.old.entries ++ e.now ∷ []) }
     ensures home { NoneIsAway orca.new }
+    ensures none { orca.new.blocks ≡ [] }
     ensures fault { IfErr result (IsFault (next orca.old.state e.now) e.now) }
     ensures book { (book.new.weight ≡ book.old.weight) × (book.new.trace ≡ book.old.trace) }
     ensures same { OnErr result (IsSame orca.old orca.new) }
@@ -44,7 +47,7 @@ fn step(alloc: Global, orca: &mut Orca<'_>, book: &mut Book, e: &Event) -> Resul
     if book.reserve(1).is_err() {
         return Err(StepFault::NoMemory);
     }
-    orca.step(alloc, *e)?;
+    orca.step(alloc, *e, &mut NoBlocks::default())?;
     book.push(*e);
     Ok(())
 }
@@ -64,10 +67,11 @@ fn end_of(fault: StepFault) -> End
 
 /// One worker goes on in the one-worker order, from whatever state it finds, and enters each event into
 /// the book: until no event is enabled, else until the book is as long as the budget, else until an
-/// actor would make one more than may be made, or memory is refused.
+/// actor would make one more than may be made, or memory is refused. The machine has no blocks.
 pub fn finish(alloc: Global, orca: &mut Orca<'_>, book: &mut Book, budget: u64) -> End
     requires most { budget ≤ BOOK_LIMIT }
     requires home { NoneIsAway orca.old }
+    requires none { orca.old.blocks ≡ [] }
     requires run { IsRunOf orca.old book.old.entries }
     requires within { length book.old.entries ≤ budget }
     ensures run { IsRunOf orca.new book.new.entries }
@@ -76,6 +80,7 @@ pub fn finish(alloc: Global, orca: &mut Orca<'_>, book: &mut Book, budget: u64) 
     ensures within { length book.new.entries ≤ budget }
     ensures book { (book.new.weight ≡ book.old.weight) × (book.new.trace ≡ book.old.trace) }
     ensures home { NoneIsAway orca.new }
+    ensures none { orca.new.blocks ≡ [] }
     ensures on { GoesOnTo orca.old.state book.old.entries orca.new.state book.new.entries }
     ensures end { EndsSo result orca.new.state (length book.new.entries) budget }
 {

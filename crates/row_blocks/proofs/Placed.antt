@@ -9,7 +9,17 @@ use Rattle.block_table.proofs.Telling.{get-set_other, get-set_same}
 use Rattle.letter_kinds.specs.Holdings.{Row}
 use Rattle.row_store.specs.Words.{CanPut, HoldsRow, IsRow, Words, with_row}
 use Rattle.row_store.proofs.Blocks.{put_holds, put_keeps}
-use Rattle.row_blocks.specs.Blocks.{LiePlaced, LiesIn, MayPutFree, StillLie}
+use Rattle.row_blocks.specs.Blocks.{LiePlaced, LiesIn, MayPutEach, MayPutFree, StillLie}
+
+-- ---- words that may be written
+
+-- those of each block: so those of the free ones
+pub free_may : (blocks : Blocks) (places : List ℕ) → MayPutEach blocks places → MayPutFree blocks places
+free_may blocks places may k free = may k (slice_get_within blocks k None free)
+
+-- and those of as many others
+pub still_may : (blocks later : Blocks) (places after : List ℕ) → length later ≡ length blocks → after ≡ places → MayPutEach blocks places → MayPutEach later after
+still_may blocks later places after size same may k within = subst (CanPut k) (sym same) (may k (omega (arith, within, size)))
 
 -- ---- one row
 

@@ -1,5 +1,5 @@
 -- Rows that lie in the blocks of their objects.
-use Rattle.std.specs.Prelude.{ℕ, ◌≡◌, ◌+◌, Bool, if◌then◌else◌, List, map, slice_get, Option, None, Some, IsSome}
+use Rattle.std.specs.Prelude.{ℕ, ◌≡◌, ◌+◌, ◌<◌, Bool, if◌then◌else◌, List, length, map, slice_get, Option, None, Some, IsSome}
 use Rattle.std.specs.List.{list_any}
 use Rattle.orca_names.specs.declared.names.ObjName.{ObjName}
 use Rattle.block_table.specs.Blocks.{Blocks, OneBlockEach}
@@ -11,6 +11,10 @@ use Rattle.row_store.specs.Words.{CanPut, HoldsRow, IsRow, Words}
 -- the words of each free block may be written
 abbrev pub MayPutFree : Blocks → List ℕ → Type 0
 MayPutFree blocks places = (k : ℕ) → slice_get blocks k ≡ Some None → CanPut k places
+
+-- so may those of each block
+abbrev pub MayPutEach : Blocks → List ℕ → Type 0
+MayPutEach blocks places = (k : ℕ) → k < length blocks → CanPut k places
 
 -- ---- rows that came into blocks
 

@@ -1,16 +1,21 @@
 -- Which block each object's row has.
-use Rattle.std.specs.Prelude.{ℕ, ◌+◌, ◌-◌, ◌<◌, ◌≤◌, ◌≡◌, Bool, false, if◌then◌else◌, List, [], ◌∷◌, length, map, slice_get, Option, Some, None}
+use Rattle.std.specs.Prelude.{ℕ, ◌+◌, ◌-◌, ◌<◌, ◌≤◌, ◌≡◌, ◌==◌, ◌&&◌, Bool, false, not, if◌then◌else◌, List, [], ◌∷◌, length, map, slice_get, Option, Some, None}
 use Rattle.std.specs.FinMap as m
 use Rattle.std.specs.Option.{option_map_or}
 use Rattle.orca_names.specs.declared.names.ObjName.{ObjName}
 use Rattle.orca_names.specs.declared.names.Thing.TheVariants.{Obj}
+use Rattle.orca_names.specs.declared.trace.Trace.{Trace}
 use Rattle.block_table.specs.Blocks.{OneBlockEach, Blocks, count_free, fill, free_blocks, names_from}
 use Rattle.behaviour_code.specs.declared.code.Program.{Program}
 use Rattle.event_rule.specs.Runs.{Goes}
 use Rattle.event_rule.specs.declared.event.Event.{Event}
-use Rattle.event_rule.specs.declared.event.Event.TheVariants.{Go}
+use Rattle.event_rule.specs.declared.event.Event.TheVariants.{Collect, Go, Leave, Reap}
+use Rattle.letter_kinds.specs.Counting.{sweep}
+use Rattle.letter_kinds.specs.Detector.{Token, has}
 use Rattle.letter_kinds.specs.Holdings.{has_own}
 use Rattle.machine_rules.specs.Actors.{Actors, Seat, seat_at}
+use Rattle.machine_rules.specs.Collect.{is_marked}
+use Rattle.machine_rules.specs.Detect.{acked_token}
 use Rattle.machine_rules.specs.Left.{IsLeft}
 use Rattle.machine_rules.specs.Next.{next}
 use Rattle.machine_rules.specs.Options.{Options}
@@ -43,6 +48,24 @@ kept_of actors (Some n) = if is_left actors n then Some n else None
 -- what is left keeps its block, and what the event made takes those that are free then
 abbrev pub blocks_after : State → Event → State → Blocks → Blocks
 blocks_after s e t blocks = fill (made_by s e t) (map (kept_of t.actors) blocks)
+
+-- ---- the objects that an event frees
+
+-- the actor's own object that its collection does not keep
+abbrev pub is_swept : Trace → Actors → ℕ → ObjName → Bool
+is_swept trace actors a n =
+    option_map_or
+    (λ o. not (has_own (sweep (is_marked trace a o.cell) a o.cell.holdings) (Obj n)))
+    (seat_at actors a) false
+
+-- whether the event frees it, where it is left: what a collection sweeps, and all of an actor that
+-- goes
+abbrev pub is_freed_by : State → Event → ObjName → Bool
+is_freed_by s (Collect a) n = (n.owner == a) && is_swept s.options.trace s.actors a n
+is_freed_by s (Leave a) n = n.owner == a
+is_freed_by s (Reap number) n =
+    option_map_or (λ (t : Token). has t.members n.owner) (acked_token number s.detector) false
+is_freed_by s e n = false
 
 -- ---- room
 

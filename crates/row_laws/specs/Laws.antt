@@ -1,12 +1,15 @@
 -- What holds of blocks.
-use Rattle.std.specs.Prelude.{ℕ, ◌≡◌, ◌+◌, ◌<◌, ◌↔◌, List, length, slice_get, Some}
+use Rattle.std.specs.Prelude.{ℕ, ◌≡◌, ◌+◌, ◌<◌, ◌↔◌, true, false, List, [], length, slice_get, Some, None}
+use Rattle.std.specs.FinMap as m
 use Rattle.orca_names.specs.declared.names.ObjName.{ObjName}
+use Rattle.orca_names.specs.declared.names.Thing.{Thing}
 use Rattle.orca_names.specs.declared.names.Thing.TheVariants.{Obj}
+use Rattle.orca_names.specs.declared.trace.Trace.TheVariants.{Deep}
 use Rattle.behaviour_code.specs.declared.code.Program.{Program}
 use Rattle.event_rule.specs.Runs.{Goes}
 use Rattle.event_rule.specs.declared.event.Event.{Event}
 use Rattle.letter_kinds.specs.Letters.{Letter}
-use Rattle.machine_rules.specs.Actors.{Actors, seat, seat_at}
+use Rattle.machine_rules.specs.Actors.{Actors, Every, seat, seat_at}
 use Rattle.machine_rules.specs.Cell.{Cell}
 use Rattle.machine_rules.specs.Left.{IsLeft}
 use Rattle.machine_rules.specs.Next.{next}
@@ -14,9 +17,9 @@ use Rattle.machine_rules.specs.Options.{Options}
 use Rattle.machine_rules.specs.Run.{IsRun}
 use Rattle.machine_rules.specs.State.{State, first_state}
 use Rattle.count_laws.specs.Gone.{HasName}
-use Rattle.count_laws.specs.Named.{IsNamedBy, NamesNothingFreed}
+use Rattle.count_laws.specs.Named.{IsNamedBy, NamesNothingFreed, brought_by}
 use Rattle.block_table.specs.Blocks.{Blocks, count_free, free_blocks}
-use Rattle.row_laws.specs.Blocks.{AreBlocksOf, Fits, IsRowRun, LacksBlocks, LeadsWithBlocks, blocks_after, made_by, objects_left}
+use Rattle.row_laws.specs.Blocks.{AreBlocksOf, Fits, IsRowRun, LacksBlocks, LeadsWithBlocks, blocks_after, is_freed_by, made_by, objects_left}
 
 -- the name of each object that is left was given
 abbrev pub AreNamed : Actors → Type 0
@@ -49,6 +52,15 @@ NoBlockIsTakenEarly =
     → (k a : ℕ) (n : ObjName) (c : Cell) (mail : List Letter)
     → slice_get blocks k ≡ Some (Some n) → seat_at t.actors a ≡ seat c mail
     → IsNamedBy a c mail (Obj n) → slice_get (blocks_after s e t blocks) k ≡ Some (Some n)
+
+-- what is left stays, but for what the event frees
+pub record FreesExactly (s t : State) (e : Event) : Type 0 where
+  pub stays : (n : ObjName) → IsLeft s.actors (Obj n) → is_freed_by s e n ≡ false
+      → IsLeft t.actors (Obj n)
+  pub goes : (n : ObjName) → is_freed_by s e n ≡ true → IsLeft t.actors (Obj n) → ⊥
+
+abbrev pub EventsFreeExactly : Type 0
+EventsFreeExactly = (s t : State) (e : Event) → next s e ≡ Goes t → FreesExactly s t e
 
 -- ---- runs
 
@@ -109,3 +121,15 @@ abbrev pub LackIsCounted : Type 0
 LackIsCounted =
     (s : State) (e : Event) (blocks : Blocks) → HasBlocks s blocks
     → LacksBlocks s e blocks ↔ MakesTooMany s e blocks
+
+-- ---- deep tracing
+
+-- the actor keeps no row that a letter brought, and no letter that waits for it brings one uncounted
+pub record BringsNone (c : Cell) (mail : List Letter) : Type 0 where
+  pub known : (x : Thing) → m.get c.known x ≡ None
+  pub letters : brought_by mail ≡ []
+
+abbrev pub DeepBringsNone : Type 0
+DeepBringsNone =
+    (program : Program) (options : Options) → options.trace ≡ Deep → (book : List Event)
+    (s : State) → IsRun program options book s → Every (λ a c mail. BringsNone c mail) s.actors

@@ -1,6 +1,6 @@
 // What holds of the blocks in which rows lie.
 
-ghost use Rattle.row_laws.specs.Laws.{BlocksStay, FreeAreTheRest, LackIsCounted, LeftKeepsBlock, NamedKeepsBlock, NoBlockIsTakenEarly, RowRunsAreRuns, StartsFree};
+ghost use Rattle.row_laws.specs.Laws.{BlocksStay, DeepBringsNone, EventsFreeExactly, FreeAreTheRest, LackIsCounted, LeftKeepsBlock, NamedKeepsBlock, NoBlockIsTakenEarly, RowRunsAreRuns, StartsFree};
 
 /// An event that has room gives a block to each object that it makes, and each other object that is left
 /// keeps its own; a block is free exactly where no object that is left has it.
@@ -35,4 +35,15 @@ pub fn left_keeps_block()
 pub fn free_are_the_rest()
     ensures free { FreeAreTheRest }
     ensures lack { LackIsCounted }
+{}
+
+/// An event frees just what a collection sweeps, or all objects of an actor that goes.
+pub fn events_free_exactly()
+    ensures { EventsFreeExactly }
+{}
+
+/// With deep tracing no actor keeps a row that a letter brought, and no letter that waits brings one
+/// uncounted.
+pub fn deep_tracing_brings_none()
+    ensures { DeepBringsNone }
 {}

@@ -1,6 +1,6 @@
 // Workers over boards of each hall, one of which may be told wrong names at first.
 
-ghost use Rattle.std.specs.Prelude.{◌≡◌, ◌≤◌, All, IfOk, length};
+ghost use Rattle.std.specs.Prelude.{◌≡◌, ◌≤◌, [], All, IfOk, length};
 ghost use Rattle.orca_names.specs.declared.trace.Trace.TheVariants.{Deep};
 ghost use Rattle.orca_parts.specs.Parts.{options_of};
 ghost use Rattle.orca_core.specs.Laws.{IsRunOf};
@@ -218,6 +218,7 @@ fn is_first_left(alloc: Global, orca: &Orca<'_>) -> bool
 fn finishes_with_first(alloc: Global, orca: &mut Orca<'_>, book: &mut Book) -> bool
     requires run { IsRunOf orca.old book.old.entries }
     requires home { NoneIsAway orca.old }
+    requires none { orca.old.blocks ≡ [] }
     requires within { length book.old.entries ≤ BUDGET }
 {
     let end = finish(alloc, orca, book, BUDGET);
@@ -228,6 +229,7 @@ fn finishes_with_first(alloc: Global, orca: &mut Orca<'_>, book: &mut Book) -> b
 fn ends_with_first(alloc: Global, orca: Orca<'_>, book: Book) -> bool
     requires run { IsRunOf orca book.entries }
     requires home { NoneIsAway orca }
+    requires none { orca.blocks ≡ [] }
     requires within { length book.entries ≤ BUDGET }
 {
     let mut orca = orca;

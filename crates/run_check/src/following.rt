@@ -1,5 +1,6 @@
 // Books that both machines follow.
 
+ghost use Rattle.std.specs.Prelude.{◌≡◌, []};
 ghost use Rattle.orca_core.specs.Machine.{NoneIsAway};
 
 use crate::tally::{Deed, Tally};
@@ -9,6 +10,7 @@ use letter_kinds::Letter;
 use orca_core::Orca;
 use orca_names::ActorName;
 use plain_machine::Plain;
+use row_store::NoBlocks;
 use run_book::Book;
 use std::alloc::Global;
 
@@ -40,16 +42,23 @@ fn place_of(orca: &Orca<'_>, a: ActorName) -> Option<u32> {
 
 /// Does an event in the machine that collects, and tells whether it was not refused.
 fn step(alloc: Global, orca: &mut Orca<'_>, event: Event) -> bool
-    requires { NoneIsAway orca.old }
-    ensures { NoneIsAway orca.new }
+    requires home { NoneIsAway orca.old }
+    requires none { orca.old.blocks ≡ [] }
+    ensures home { NoneIsAway orca.new }
+    ensures none { orca.new.blocks ≡ [] }
 {
-    orca.steps() < MOST && orca.step(alloc, event).is_ok()
+    if orca.steps() >= MOST {
+        return false;
+    }
+    orca.step(alloc, event, &mut NoBlocks::default()).is_ok()
 }
 
 /// Does a go in the machine that collects, and tells what it was; `None` where it is refused.
 fn goes(alloc: Global, orca: &mut Orca<'_>, a: ActorName) -> Option<Deed>
-    requires { NoneIsAway orca.old }
-    ensures { NoneIsAway orca.new }
+    requires home { NoneIsAway orca.old }
+    requires none { orca.old.blocks ≡ [] }
+    ensures home { NoneIsAway orca.new }
+    ensures none { orca.new.blocks ≡ [] }
 {
     let before = place_of(orca, a);
     if !step(alloc, orca, Event::Go(a)) {
@@ -64,8 +73,10 @@ fn goes(alloc: Global, orca: &mut Orca<'_>, a: ActorName) -> Option<Deed>
 
 /// Does an event in the machine that collects, and tells what it was; `None` where it is refused.
 fn does(alloc: Global, orca: &mut Orca<'_>, event: &Event) -> Option<Deed>
-    requires { NoneIsAway orca.old }
-    ensures { NoneIsAway orca.new }
+    requires home { NoneIsAway orca.old }
+    requires none { orca.old.blocks ≡ [] }
+    ensures home { NoneIsAway orca.new }
+    ensures none { orca.new.blocks ≡ [] }
 {
     let deed = match event {
         Event::Go(a) => return goes(alloc, orca, *a),
@@ -97,8 +108,10 @@ fn print_alike(orca: &Orca<'_>, plain: &Plain<'_>) -> bool {
 /// Does an entry of a book in both machines, and tells what it was; `None` where one of them refuses it,
 /// or they then have not printed the same.
 fn enter(alloc: Global, orca: &mut Orca<'_>, plain: &mut Plain<'_>, event: &Event) -> Option<Deed>
-    requires { NoneIsAway orca.old }
-    ensures { NoneIsAway orca.new }
+    requires home { NoneIsAway orca.old }
+    requires none { orca.old.blocks ≡ [] }
+    ensures home { NoneIsAway orca.new }
+    ensures none { orca.new.blocks ≡ [] }
 {
     let deed = does(alloc, orca, event)?;
     let both = chooses(alloc, plain, event, deed) && print_alike(orca, plain);
@@ -113,7 +126,8 @@ fn follow(
     book: &Book,
     tally: &mut Tally,
 ) -> Ending
-    requires { NoneIsAway orca.old }
+    requires home { NoneIsAway orca.old }
+    requires none { orca.old.blocks ≡ [] }
 {
     for i in 0..book.len() {
         let Some(deed) = enter(alloc, orca, plain, &book.at(i)) else {
@@ -136,7 +150,8 @@ fn follow_in(
     book: &Book,
     tally: &mut Tally,
 ) -> Ending
-    requires { NoneIsAway orca.old }
+    requires home { NoneIsAway orca.old }
+    requires none { orca.old.blocks ≡ [] }
 {
     match Plain::start(alloc, code) {
         Ok(mut plain) => follow(alloc, orca, &mut plain, book, tally),
@@ -146,7 +161,7 @@ fn follow_in(
 
 /// Where a book ends that both machines follow, with its weight and tracing. What it has is tallied.
 pub(crate) fn ending_of(alloc: Global, code: &Checked, book: &Book, tally: &mut Tally) -> Ending {
-    match Orca::start(alloc, code, book.weight(), book.trace()) {
+    match Orca::start(alloc, code, book.weight(), None, book.trace()) {
         Ok(mut orca) => follow_in(alloc, &mut orca, code, book, tally),
         Err(_) => Ending::Never,
     }

@@ -48,6 +48,7 @@ closes t l (Whole orca book) last leaves =
       last_is = last;
       none = leaves.0;
       parts = leaves.1;
+      blockless = leaves.2;
       program = terms.program_is;
       options = terms.options_is;
       budget = terms.budget_is;

@@ -56,7 +56,7 @@ module _ (program : Program) (budget : ℕ) (m : Machine) (book : BookValue) (cl
     is_home = event_is_home program budget m book claims rooms kept e free
 
     pub may_try : (place : Option (Box Found)) → ForSome place (λ known. IsFoundIn e known.value m) → MayEnter e place m
-    may_try = may_enter program budget m book kept.one holder e none is_home (reaps_none_away program budget m book claims rooms kept e)
+    may_try = may_enter program budget m book kept.one holder e none is_home kept.none (reaps_none_away program budget m book claims rooms kept e)
 
     module _ (n : Machine) (after_it : BookValue) (away : KeepsAway m.out n.out)
         (alike : (after_it.weight ≡ book.weight) × (after_it.trace ≡ book.trace)) where
@@ -68,7 +68,7 @@ module _ (program : Program) (budget : ℕ) (m : Machine) (book : BookValue) (cl
         pub keeps_entry : (done : Committed) → Enters e done m n book after_it → length claims < more.free + more.out
             → HallKeeps program budget n after_it (grown (length n.state.actors) claims) more
         keeps_entry done is = kept_entered program budget m book claims more roomy n after_it
-            (keeps program budget m book kept.one holder e none n after_it alike (Ok done) is tt) away e free is.goes
+            (keeps program budget m book kept.one holder e none n after_it alike (Ok done) is tt) away e free is.goes is.none
 
         pub keeps_all : (refuse : Refuse) → Refuses e refuse m n book after_it → HallKeeps program budget n after_it claims more
         keeps_all refuse is = kept_same program budget m book claims more roomy n after_it

@@ -103,6 +103,7 @@ module _ (program : Program) (budget : ℕ) (m : Machine) (book : BookValue) (cl
       → HallKeeps program budget m book claims more
   kept_rooms more out free = record {
     one = kept.one;
+    none = kept.none;
     away = kept.away;
     sized = kept.sized;
     counted = out ∙ kept.counted;
@@ -131,10 +132,11 @@ module _ (program : Program) (budget : ℕ) (m : Machine) (book : BookValue) (cl
 
     -- with its cell lent
     pub kept_claimed : (n : Machine) (pass : ℕ) → n.state ≡ m.state → n.steps ≡ m.steps → n.out ≡ set m.out a true
-        → is_out n.out a ≡ true → (less : RoomsView) → less.free + 1 ≡ rooms.free → less.out ≡ rooms.out + 1
+        → n.blocks ≡ m.blocks → is_out n.out a ≡ true → (less : RoomsView) → less.free + 1 ≡ rooms.free → less.out ≡ rooms.out + 1
         → HallKeeps program budget n book (set claims a (Some pass)) less
-    kept_claimed n pass state steps out lent_is less one_less one_out = record {
+    kept_claimed n pass state steps out blocks lent_is less one_less one_out = record {
       one = still program budget m book kept.one n book refl state steps refl;
+      none = blocks ∙ kept.none;
       away = λ b. dite (ℕ_discrete b a)
           (λ same. subst (λ (x : ℕ). is_out n.out x ≡ is_some (claim_in (set claims a (Some pass)) x)) (sym same)
           (lent_is ∙ sym (ap is_some (get_or-set_same claims a (Some pass) None inside))))
@@ -149,10 +151,11 @@ module _ (program : Program) (budget : ℕ) (m : Machine) (book : BookValue) (cl
     }
 
   pub kept_ended : (n : Machine) (a pass : ℕ) → n.state ≡ m.state → n.steps ≡ m.steps → n.out ≡ set m.out a false
-      → claim_in claims a ≡ Some pass → (more : RoomsView) → more.free ≡ rooms.free + 1 → more.out + 1 ≡ rooms.out
+      → n.blocks ≡ m.blocks → claim_in claims a ≡ Some pass → (more : RoomsView) → more.free ≡ rooms.free + 1 → more.out + 1 ≡ rooms.out
       → HallKeeps program budget n book (set claims a None) more
-  kept_ended n a pass state steps out mine more one_more one_in = record {
+  kept_ended n a pass state steps out blocks mine more one_more one_in = record {
     one = still program budget m book kept.one n book refl state steps refl;
+    none = blocks ∙ kept.none;
     away = λ b. dite (ℕ_discrete b a)
         (λ same. subst (λ (x : ℕ). is_out n.out x ≡ is_some (claim_in (set claims a None) x)) (sym same)
         (ap (λ o. is_out o a) out ∙ (unset m.out a ∙ sym (ap is_some (claim_unset claims a)))))
@@ -172,11 +175,12 @@ module _ (program : Program) (budget : ℕ) (m : Machine) (book : BookValue) (cl
   module _ (n : Machine) (after : BookValue) (one : IsRunWithin program (options_of_book after) budget n.state n.steps after.entries)
       (away : KeepsAway m.out n.out) where
     -- with an entry more
-    pub kept_entered : (e : Event) → claim_for e claims ≡ None → next m.state e ≡ Goes n.state → length claims < rooms.free + rooms.out
+    pub kept_entered : (e : Event) → claim_for e claims ≡ None → next m.state e ≡ Goes n.state → n.blocks ≡ [] → length claims < rooms.free + rooms.out
         → HallKeeps program budget n after (grown (length n.state.actors) claims) rooms
-    kept_entered e free goes spare =
+    kept_entered e free goes none spare =
         let grew = grows_by_one m.state n.state e goes in let all = grew.kept in let at_most = grew.one in let s = kept.sized in record {
           one = one;
+          none = none;
           away = λ a. away a ∙ (kept.away a ∙ sym (ap is_some (claim_grown (length n.state.actors) claims a)));
           sized = long_grown (length n.state.actors) claims (omega arith) (omega arith);
           counted = kept.counted ∙ sym (counted_grown is_some refl (length n.state.actors) claims);
@@ -193,6 +197,7 @@ module _ (program : Program) (budget : ℕ) (m : Machine) (book : BookValue) (cl
     pub kept_same : IsSame m n → HallKeeps program budget n after claims rooms
     kept_same same = record {
       one = one;
+      none = same.blocks ∙ kept.none;
       away = λ a. away a ∙ kept.away a;
       sized = kept.sized ∙ ap (λ (s : State). length s.actors) (sym same.state);
       counted = kept.counted;

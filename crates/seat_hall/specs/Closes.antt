@@ -21,12 +21,13 @@ pub record IsLastHall (t : Token) (l : Logged) : Type 0 where
   pub legal : Legal (start_of (knows t).client) log
   pub is : l ≡ hall t log
 
--- the last hall's parts, where no claim is out; it is of the pass's run
+-- the last hall's parts, where no claim is out; it is of the pass's run, and its machine has no blocks
 pub record IsWhole (t : Token) (orca : Machine) (book : BookValue) : Type 0 where
   pub last : Logged
   pub last_is : IsLastHall t last
   pub none : listed 0 last.claims ≡ []
   pub parts : AreParts (plain last) orca book
+  pub blockless : orca.blocks ≡ []
   pub program : last.program ≡ (knows t).client.program
   pub options : last.options ≡ (knows t).client.options
   pub budget : last.budget ≡ (knows t).client.budget
@@ -43,7 +44,8 @@ pub record IsLent (t : Token) (holder actor : ℕ) : Type 0 where
 
 -- what the last hall leaves, once nobody has the turn
 abbrev pub Leaves : Logged → Closing → Type 0
-Leaves l (Whole orca book) = (listed 0 l.claims ≡ []) × AreParts (plain l) orca book
+Leaves l (Whole orca book) =
+    (listed 0 l.claims ≡ []) × AreParts (plain l) orca book × (orca.blocks ≡ [])
 Leaves l (Turning ticket serving) = ⊥
 Leaves l (Lent holder actor) = IsLowestClaim holder actor l
 

@@ -1,5 +1,5 @@
 -- The hall as it lies under the turn, without the cells that are out.
-use Rattle.std.specs.Prelude.{ℕ, ◌≡◌, ◌≢◌, ◌+◌, ◌≤◌, is_some, true, List, length, count_by, Option, Some, None}
+use Rattle.std.specs.Prelude.{ℕ, ◌≡◌, ◌≢◌, ◌+◌, ◌≤◌, [], is_some, true, List, length, count_by, Option, Some, None}
 use Rattle.behaviour_code.specs.declared.code.Program.{Program}
 use Rattle.machine_rules.specs.State.{State}
 use Rattle.run_book.specs.Books.{BookValue, options_of_book}
@@ -25,11 +25,12 @@ abbrev pub ClaimedAreBusy : State → List (Option ℕ) → Type 0
 ClaimedAreBusy s claims = (a pass : ℕ) → claim_in claims a ≡ Some pass → event_at s a ≢ None
 
 -- what the hall keeps: the book is a run, within the budget, that leads to the machine's state; the
--- cells that are away are those of the claims; each actor has a place for claims; as many rooms are out as
--- claims; there is a room for each actor; and claimed actors are busy
+-- machine has no blocks; the cells that are away are those of the claims; each actor has a place for
+-- claims; as many rooms are out as claims; there is a room for each actor; and claimed actors are busy
 pub record HallKeeps (program : Program) (budget : ℕ) (orca : Machine) (book : BookValue)
     (claims : List (Option ℕ)) (rooms : RoomsView) : Type 0 where
   pub one : IsRunWithin program (options_of_book book) budget orca.state orca.steps book.entries
+  pub none : orca.blocks ≡ []
   pub away : (a : ℕ) → is_out orca.out a ≡ is_some (claim_in claims a)
   pub sized : length claims ≡ length orca.state.actors
   pub counted : rooms.out ≡ count_by is_some claims

@@ -107,7 +107,7 @@ impl<'a> Hall<'a> {
         claims.push(None)?;
         let mut rooms = Rooms::new(alloc);
         rooms.provide(alloc, code, 0)?;
-        let orca = Orca::start(alloc, code, options.weight, options.trace)?;
+        let orca = Orca::start(alloc, code, options.weight, None, options.trace)?;
         Ok(Hall {
             code,
             budget,
@@ -167,10 +167,11 @@ impl<'a> Hall<'a> {
         lowest_in(&self.claims)
     }
 
-    /// The machine, whose state is that of the book, and the book.
+    /// The machine, whose state is that of the book and which has no blocks, and the book.
     pub(crate) fn into_parts(self) -> (Orca<'a>, Book)
         requires none { listed 0 self.logged.claims ≡ [] }
         ensures whole { AreParts (plain self.entry.logged) result.0 result.1 }
+        ensures blockless { result.0.blocks ≡ [] }
     {
         (self.orca, self.book)
     }

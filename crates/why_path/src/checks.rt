@@ -1,6 +1,6 @@
 // Whether no edge leads from a thing to a loose one.
 
-ghost use Rattle.std.specs.Prelude.{◌≡◌, ◌↔◌, true, All};
+ghost use Rattle.std.specs.Prelude.{◌≡◌, ◌↔◌, [], true, All};
 ghost use Rattle.orca_core.specs.Machine.{NoneIsAway};
 ghost use Rattle.why_path.specs.Checks.{IsNotLoose, LeadsToNoneLoose};
 ghost use Rattle.why_path.specs.Edges.{args_of};
@@ -78,6 +78,7 @@ fn seat_leads_to_none_loose(reasons: &[Reason], seat: &Seated<'_>) -> bool
 /// Whether no edge leads from the thing to a loose one.
 pub(crate) fn leads_to_none_loose(orca: &Orca<'_>, reasons: &[Reason], from: &Thing) -> bool
     requires home { NoneIsAway orca.now }
+    requires none { orca.now.blocks ≡ [] }
     requires rising { Rise reasons.now }
     ensures { result ≡ true ↔ LeadsToNoneLoose orca.now.state.actors reasons.now from.now }
 {

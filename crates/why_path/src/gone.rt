@@ -1,6 +1,6 @@
 // Who went by the entries of a run book.
 
-ghost use Rattle.std.specs.Prelude.{◌≡◌, ◌+◌, ◌++◌, ◌<◌, ◌≤◌, length, IfOk, OnOk};
+ghost use Rattle.std.specs.Prelude.{◌≡◌, ◌+◌, ◌++◌, ◌<◌, ◌≤◌, [], length, IfOk, OnOk};
 ghost use Rattle.std.specs.Option.{option_to_list};
 ghost use Rattle.event_rule.specs.Runs.{Goes};
 ghost use Rattle.machine_rules.specs.Next.{next};
@@ -16,6 +16,7 @@ use event_rule::Event;
 use orca_core::{Orca, StepFault};
 use orca_names::{NoMemory, Parting};
 use plain_list::Listed;
+use row_store::NoBlocks;
 use run_book::Book;
 use std::alloc::Global;
 
@@ -55,12 +56,14 @@ fn tell(found: &mut Vec<Parting>, parting: Option<Parting>) -> Result<(), NoMemo
 fn step(alloc: Global, orca: &mut Orca<'_>, e: &Event) -> Result<(), NoMemory>
     requires early { orca.old.steps < BOOK_LIMIT }
     requires home { NoneIsAway orca.old }
+    requires none { orca.old.blocks ≡ [] }
     requires leads { (t : State) × (next orca.old.state e.now ≡ Goes t) }
     ensures ok { OnOk result (next orca.old.state e.now ≡ Goes orca.new.state) }
     ensures steps { OnOk result (orca.new.steps ≡ orca.old.steps + 1) }
     ensures home { NoneIsAway orca.new }
+    ensures none { orca.new.blocks ≡ [] }
 {
-    match orca.step(alloc, *e) {
+    match orca.step(alloc, *e, &mut NoBlocks::default()) {
         Ok(_) => Ok(()),
         Err(StepFault::NoMemory) => Err(NoMemory),
         Err(StepFault::NotEnabled) => unreachable!(),
@@ -82,7 +85,7 @@ pub fn partings(alloc: Global, code: &Checked, book: &Book) -> Result<Vec<Partin
         IfOk result (λ found. found.items
         ≡ partings_of book.now.entries (first_state code.now options)) }
 {
-    let mut orca = Orca::start(alloc, code, book.weight(), book.trace())?;
+    let mut orca = Orca::start(alloc, code, book.weight(), None, book.trace())?;
     let mut found = Vec::new(alloc);
     for i in 0..book.len() {
         let e = book.at(i);

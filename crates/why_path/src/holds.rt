@@ -1,6 +1,6 @@
 // Whether reasons hold up.
 
-ghost use Rattle.std.specs.Prelude.{◌≡◌, ◌↔◌, true, All, Contains};
+ghost use Rattle.std.specs.Prelude.{◌≡◌, ◌↔◌, [], true, All, Contains};
 ghost use Rattle.orca_names.specs.Names.{owner_of};
 ghost use Rattle.orca_names.specs.declared.names.Thing.{Thing as a_thing};
 ghost use Rattle.machine_rules.specs.Left.{IsLeft};
@@ -131,6 +131,7 @@ fn stands_below(reasons: &[Reason], thing: &Thing, level: u64) -> bool
 // Whether what the line says is so.
 fn line_holds(orca: &Orca<'_>, reasons: &[Reason], line: &Reason) -> bool
     requires home { NoneIsAway orca.now }
+    requires none { orca.now.blocks ≡ [] }
     requires rising { Rise reasons.now }
     ensures { result ≡ true ↔ Holds orca.now.state.actors reasons.now line.now }
 {
@@ -146,6 +147,7 @@ fn line_holds(orca: &Orca<'_>, reasons: &[Reason], line: &Reason) -> bool
 // Whether what each line says is so.
 fn lines_hold(orca: &Orca<'_>, reasons: &[Reason]) -> bool
     requires home { NoneIsAway orca.now }
+    requires none { orca.now.blocks ≡ [] }
     requires rising { Rise reasons.now }
     ensures { result ≡ true ↔ All (Holds orca.now.state.actors reasons.now) reasons.now }
 {
@@ -160,6 +162,7 @@ fn lines_hold(orca: &Orca<'_>, reasons: &[Reason]) -> bool
 // Whether the line is loose, or no edge leads from its thing to a loose one.
 fn is_closed_at(orca: &Orca<'_>, reasons: &[Reason], line: &Reason) -> bool
     requires home { NoneIsAway orca.now }
+    requires none { orca.now.blocks ≡ [] }
     requires rising { Rise reasons.now }
     ensures { result ≡ true ↔ IsClosedAt orca.now.state.actors reasons.now line.now }
 {
@@ -169,6 +172,7 @@ fn is_closed_at(orca: &Orca<'_>, reasons: &[Reason], line: &Reason) -> bool
 // Whether no edge leads from a kept thing to a loose one.
 fn are_closed(orca: &Orca<'_>, reasons: &[Reason]) -> bool
     requires home { NoneIsAway orca.now }
+    requires none { orca.now.blocks ≡ [] }
     requires rising { Rise reasons.now }
     ensures { result ≡ true ↔ All (IsClosedAt orca.now.state.actors reasons.now) reasons.now }
 {
@@ -183,8 +187,10 @@ fn are_closed(orca: &Orca<'_>, reasons: &[Reason]) -> bool
 /// Whether these reasons hold up: each thing that is left stands once, in the order of things; each root
 /// reason applies; each parent is not loose and stands one level lower, with that edge; no loose thing is a
 /// root; and no edge leads from a kept thing to a loose one. It walks no path and takes no memory.
+/// The machine has no blocks.
 pub fn holds_up(orca: &Orca<'_>, reasons: &[Reason]) -> bool
-    requires { NoneIsAway orca.now }
+    requires home { NoneIsAway orca.now }
+    requires none { orca.now.blocks ≡ [] }
     ensures { result ≡ true ↔ HoldsUp orca.now.state.actors reasons.now }
 {
     if !lists_exactly(orca, reasons) {

@@ -1,6 +1,6 @@
 // Where one edge leads.
 
-ghost use Rattle.std.specs.Prelude.{◌≡◌, ◌↔◌, true, option_and_then, slice_get};
+ghost use Rattle.std.specs.Prelude.{◌≡◌, ◌↔◌, [], true, option_and_then, slice_get};
 ghost use Rattle.orca_core.specs.Machine.{NoneIsAway};
 ghost use Rattle.why_path.specs.Edges.{LeadsBy, args_of};
 ghost use Rattle.why_path.specs.Ends.{end_at_row, end_at_seat, end_of, named_at};
@@ -61,7 +61,8 @@ fn end_at_row(owner: ActorName, row: &[Value], edge: &Edge) -> Option<Thing>
 
 // Where the edge leads from a thing, if it leads anywhere.
 fn end_of(orca: &Orca<'_>, from: &Thing, edge: &Edge) -> Option<Thing>
-    requires { NoneIsAway orca.now }
+    requires home { NoneIsAway orca.now }
+    requires none { orca.now.blocks ≡ [] }
     ensures { result ≡ end_of orca.now.state.actors from.now edge.now }
 {
     match from {
@@ -72,7 +73,8 @@ fn end_of(orca: &Orca<'_>, from: &Thing, edge: &Edge) -> Option<Thing>
 
 /// Whether the edge leads from one thing to the other.
 pub(crate) fn leads_by(orca: &Orca<'_>, from: &Thing, edge: &Edge, to: &Thing) -> bool
-    requires { NoneIsAway orca.now }
+    requires home { NoneIsAway orca.now }
+    requires none { orca.now.blocks ≡ [] }
     ensures { result ≡ true ↔ LeadsBy orca.now.state.actors from.now edge.now to.now }
 {
     match end_of(orca, from, edge) {

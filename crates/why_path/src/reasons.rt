@@ -1,6 +1,6 @@
 // Why each thing that is left is left.
 
-ghost use Rattle.std.specs.Prelude.{◌≡◌, length, map, not, IfOk, OnOk};
+ghost use Rattle.std.specs.Prelude.{◌≡◌, [], length, map, not, IfOk, OnOk};
 ghost use Rattle.std.specs.List.{filter};
 ghost use Rattle.orca_core.specs.Machine.{NoneIsAway};
 ghost use Rattle.why_path.specs.Checks.{is_loose};
@@ -50,6 +50,7 @@ impl Walk {
     // Walks to the end; at most so many levels have a thing.
     fn finish(&mut self, alloc: Global, orca: &Orca<'_>, most: u64) -> Result<(), NoMemory>
         requires home { NoneIsAway orca.now }
+        requires none { orca.now.blocks ≡ [] }
         requires start { IsDoneTo orca.now.state.actors 0 self.old }
         requires most { most ≡ length self.old.reasons.items }
         ensures { OnOk result (AreReasons orca.now.state.actors self.new.reasons.items) }
@@ -72,12 +73,13 @@ impl Walk {
 /// Why each thing that is left is left, in the order of things: a root with its first cause; what else
 /// is reached with its level, which is the least number of edges from a root, and with the least thing
 /// one level lower that leads to it, by its first edge that does; the rest is loose. It looks once
-/// along each edge.
+/// along each edge. The machine has no blocks.
 ///
 /// # Errors
 /// `NoMemory` where memory was refused.
 pub fn explain(alloc: Global, orca: &Orca<'_>) -> Result<Vec<Reason>, NoMemory>
-    requires { NoneIsAway orca.now }
+    requires home { NoneIsAway orca.now }
+    requires none { orca.now.blocks ≡ [] }
     ensures { IfOk result (λ reasons. AreReasons orca.now.state.actors reasons.items) }
 {
     let things = orca.left(alloc)?;

@@ -1,9 +1,9 @@
 // An actor that is present.
 
 ghost use Rattle.std.specs.Prelude.{◌≡◌, option_map, IfSome};
-ghost use Rattle.letter_kinds.specs.Telling.{TellsNothing};
 ghost use Rattle.machine_rules.specs.Actors.{seat_at};
 ghost use Rattle.actor_cell.specs.Tells.{Tells};
+ghost use Rattle.orca_parts.specs.Blocks.{AreKept};
 ghost use Rattle.orca_core.specs.Machine.{NoneIsAway};
 ghost use Rattle.why_path.specs.Seats.{as_seat};
 
@@ -24,7 +24,7 @@ pub(crate) fn seat_of<'a>(orca: &'a Orca<'_>, a: ActorName) -> Option<Seated<'a>
     requires { NoneIsAway orca.now }
     ensures seat { option_map as_seat result ≡ seat_at orca.now.state.actors a }
     ensures owner { IfSome result (λ seat. seat.cell.now.heap.owner ≡ a) }
-    ensures untold { IfSome result (λ seat. TellsNothing (Tells seat.cell.now)) }
+    ensures blocks { IfSome result (λ seat. AreKept orca.now.blocks (Tells seat.cell.now)) }
 {
     let cell = orca.cell(a)?;
     let mail = orca.mail(a)?;

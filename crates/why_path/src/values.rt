@@ -1,6 +1,6 @@
 // The values by which a thing leads to others.
 
-ghost use Rattle.std.specs.Prelude.{◌≡◌, ◌≤◌, length};
+ghost use Rattle.std.specs.Prelude.{◌≡◌, ◌≤◌, [], length};
 ghost use Rattle.letter_kinds.specs.Letters.{as_letter};
 ghost use Rattle.orca_core.specs.Machine.{NoneIsAway};
 ghost use Rattle.why_path.specs.Edges.{args_of, registers_of, row_left};
@@ -41,9 +41,11 @@ pub(crate) fn registers_of<'a>(seat: &Seated<'a>) -> &'a [Value]
     }
 }
 
-/// The row of an object that is left, as its owner has it; empty where the object is not left.
+/// The row of an object that is left, as its owner has it; empty where the object is not left. The
+/// machine has no blocks.
 pub(crate) fn row_left<'a>(orca: &'a Orca<'_>, n: ObjName) -> &'a [Value]
-    requires { NoneIsAway orca.now }
+    requires home { NoneIsAway orca.now }
+    requires none { orca.now.blocks ≡ [] }
     ensures value { result.now ≡ row_left orca.now.state.actors n }
     ensures few { length result.now ≤ 8 }
 {

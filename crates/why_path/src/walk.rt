@@ -156,6 +156,7 @@ impl Walk {
     // What the parent leads to is reached.
     fn reach_from(&mut self, orca: &Orca<'_>, step: &Step) -> Result<(), NoMemory>
         requires home { NoneIsAway orca.now }
+        requires none { orca.now.blocks ≡ [] }
         requires next { IsUnderWay step.now.level self.old }
         ensures lines { OnOk result (self.new.reasons.items
             ≡ map (reached step.now.parent step.now.level (leads_of orca.now.state.actors step.now.parent))
@@ -183,6 +184,7 @@ impl Walk {
         level: u64,
     ) -> Result<(), NoMemory>
         requires home { NoneIsAway orca.now }
+        requires none { orca.now.blocks ≡ [] }
         requires next { IsUnderWay level self.old }
         ensures lines { OnOk result (self.new.reasons.items
             ≡ map (reached_from orca.now.state.actors level front.now) self.old.reasons.items) }

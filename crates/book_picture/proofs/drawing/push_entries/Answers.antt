@@ -47,4 +47,5 @@ loop-place-preserved c =
       rest = still_leads entries i e s c.at.ensures kept.rest t done.goes;
       steps = done.steps ∙ ap (λ n. n + 1) kept.steps;
       home = done.home;
+      none = done.none;
     }

@@ -1,4 +1,4 @@
-use Rattle.std.proofs.Common.{◌≡◌, drop, take, string_bytes}
+use Rattle.std.proofs.Common.{◌≡◌, [], drop, take, string_bytes}
 use Rattle.machine_rules.specs.Run.{IsRun}
 use Rattle.orca_core.specs.Machine.{NoneIsAway}
 use Rattle.run_book.specs.Books.{options_of_book}
@@ -12,4 +12,5 @@ invariant-loop-place l = record {
   rest : CanFollow l.orca.state (drop l.place l.book.entries);
   steps : l.orca.steps ≡ l.place;
   home : NoneIsAway l.orca;
+  none : l.orca.blocks ≡ [];
 }

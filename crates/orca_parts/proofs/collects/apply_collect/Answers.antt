@@ -23,31 +23,33 @@ use Rattle.row_blocks.specs.Blocks.{is_one_of, without}
 use Rattle.local_sweep.specs.Plan.{free_of}
 use Rattle.local_sweep.proofs.Freed.{freed_rise}
 use Rattle.machine_rules.specs.Collect.{is_marked}
-use Rattle.actor_cell.specs.declared.cell.Cell.{Cell}
 use Rattle.actor_cell.specs.declared.sweeping.Sweep.{Sweep}
 use Rattle.orca_parts.proofs.Owned.{freed_there, own_fit}
-use Rattle.orca_parts.proofs.Homes.{home_is}
 
 pub change-requires : goal.change-requires
 change-requires c =
     let acts = c.requires.fits.acts in
     record { cell = acts.cell; home = acts.home; so = acts.so.found_is }
 
-pub give_back_freed-requires : goal.give_back_freed-requires
-give_back_freed-requires c =
+pub give_back_some-requires : goal.give_back_some-requires
+give_back_some-requires c =
     let m = c.args.m.now in
     let a = c.args.a in
     let trace = m.options.trace in
-    let cell = c.in-Some.cell.now in
-    let home = home_is (slot_at m.parts.table.slots a) cell c.in-Some.ensures.cell in
     let acts = c.requires.fits.acts in
-    let same : acts.cell ≡ cell = cc in
-    let free : c.as_slice.result.now ≡ free_of (is_marked trace acts.cell.heap.owner (as_cell acts.cell)) acts.cell.heap = c.as_slice.ensures ∙ ap (λ (f : Sweep). f.plan.free) acts.so.found_is in
-    let freed = subst (λ (x : Cell). c.as_slice.result.now ≡ free_of (is_marked trace x.heap.owner (as_cell x)) x.heap) same free in
+    let cell = acts.cell in
+    let marked = is_marked trace cell.heap.owner (as_cell cell) in
+    let free : c.as_slice.result.now ≡ free_of marked cell.heap = c.as_slice.ensures ∙ ap (λ (f : Sweep). f.plan.free) acts.so.found_is in
     record {
-      lie = (own_fit trace m.parts.blocks m.parts.table.slots a cell c.requires.blocks home c.in-Some.ensures.owner).lie;
-      rising = subst SerialsRise (sym freed) (freed_rise (is_marked trace cell.heap.owner (as_cell cell)) cell.heap);
-      there = λ i n is. freed_there (is_marked trace cell.heap.owner (as_cell cell)) cell.heap i n (ap (λ ns. slice_get ns i) (sym freed) ∙ is);
+      rising = subst SerialsRise (sym free) (freed_rise marked cell.heap);
+      home = record {
+        cell = cell;
+        home = acts.home;
+        so = λ its. (
+          own_fit trace m.parts.blocks m.parts.table.slots a cell c.requires.blocks acts.home its,
+          λ i n is. freed_there marked cell.heap i n (ap (λ ns. slice_get ns i) (sym free) ∙ is),
+        );
+      };
     }
 
 pub push_decs-requires : goal.push_decs-requires
@@ -77,7 +79,7 @@ returns c =
           acts.may (c.into_vec.ensures ∙ c.replace-back.ensures.value ∙ acts.so.back_is) (pushed.actors ∙ ap (push_all (decs_to c.into_vec.result.items)) actors);
       alike = record { code = refl; options = refl };
       away = λ b. ap (λ bs. is_out bs b) (pushed.away ∙ c.change.ensures.rest.away);
-      blocks = c.give_back_freed.ensures ∙ ap (λ ns. without (is_one_of ns) m.parts.blocks) c.as_slice.ensures;
+      blocks = c.give_back_some.ensures ∙ ap (λ ns. without (is_one_of ns) m.parts.blocks) c.as_slice.ensures;
       told = tells_then (TableTells slots) (TableTells c.change.new.self.slots) (TableTells c.push_decs.new.table.slots) [] (c.change.ensures.told cell acts.home) pushed.told;
       lie = λ some lies. pushed.lie (c.change.ensures.lie tt lies);
       woken = woken_changed (swept trace a) a (actors_of slots) (actors_of c.change.new.self.slots)

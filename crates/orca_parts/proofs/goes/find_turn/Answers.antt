@@ -13,13 +13,16 @@ use Rattle.orca_parts.proofs.Giving.{seat_here}
 use Rattle.orca_parts.proofs.Homes.{home_is}
 use Rattle.orca_parts.proofs.Preparing.{acts_home, may_here, not_acting}
 use Rattle.orca_parts.proofs.goes.find_turn.Goals as goal
-use Rattle.orca_parts.proofs.Untold.{home_holds}
+use Rattle.letter_kinds.specs.Telling.{HoldsTold, Told}
+use Rattle.actor_cell.specs.Tells.{told_out}
+use Rattle.orca_parts.proofs.Untold.{found_holds, found_kept, home_holds}
 
 pub returns-in_default : goal.returns-in_default
 returns-in_default g c = record {
   same = refl;
   stands = λ on. cc;
   found = tt;
+  hold = tt;
   few = tt;
   fault = not_acting (Go c.args.a) (slot_at c.args.m.now.parts.table.slots c.args.a) c.in_default.ensures.cell;
   words = record { known = refl; places = refl; beside = refl };
@@ -39,8 +42,9 @@ returns-then-known g c =
     record {
       same = refl;
       stands = λ on. cc;
-      found = found_at m.options m.code.now a parts.turn parts.turned x cell home c.in-Some.ensures.owner known;
-      few = found_few m.options m.code.now cell.heap.owner parts.turn parts.turned cell checked.good known;
+      found = found_at m.options m.code.now parts.blocks a parts.turn parts.turned x cell home c.in-Some.ensures.owner known;
+      hold = c.requires.holds c.if-known.true cell home (goes_framed cell x.mail.letters (may_here may_go x cell home its.1));
+      few = found_few m.options m.code.now parts.blocks cell.heap.owner parts.turn parts.turned cell checked.good known;
       fault = tt;
       words = record { known = refl; places = refl; beside = refl };
     }
@@ -85,10 +89,14 @@ returns g c =
     let home = home_is x cell (acts_home (Go a) x cell c.in-Some.ensures.cell).0 in
     let parts : Parts = record m.parts { turn = c.find_go.new.turn; turned = c.find_go.new.found } in
     let does = c.in_ok-find_go.ensures in
+    let kept = found_kept m.parts.blocks m.parts.table.slots a cell (Told (told_out parts.turned)) c.requires.kept home does.told in
+    let holds = subst (λ known. HoldsTold known (Told (told_out parts.turned))) (sym does.words.known)
+    (found_holds (g.W.RowWords.known c.args.words.now) m.parts.table.slots a cell (Told (told_out parts.turned)) c.requires.hold home does.told) in
     record {
       same = refl;
       stands = λ on. awaited_at m.options m.code.now a parts cell home c.in-Some.ensures.owner does.found.awaited;
-      found = found_at m.options m.code.now a parts.turn parts.turned x cell home c.in-Some.ensures.owner (does.found.told, does.told);
+      found = found_at m.options m.code.now m.parts.blocks a parts.turn parts.turned x cell home c.in-Some.ensures.owner (does.found.told, kept);
+      hold = holds;
       few = does.few;
       fault = tt;
       words = does.words;
@@ -103,12 +111,16 @@ returns-in-Some-awaits g c =
     let home = home_is x cell (acts_home (Go a) x cell c.in-Some.ensures.cell).0 in
     let parts : Parts = record m.parts { turned = c.find_again.new.found } in
     let does = c.in_ok-find_again.ensures in
+    let kept = found_kept m.parts.blocks m.parts.table.slots a cell (Told (told_out parts.turned)) c.requires.kept home does.told in
+    let holds = subst (λ known. HoldsTold known (Told (told_out parts.turned))) (sym does.words.known)
+    (found_holds (g.W.RowWords.known c.args.words.now) m.parts.table.slots a cell (Told (told_out parts.turned)) c.requires.hold home does.told) in
     let checked = subst IsChecked c.program-program.ensures.value c.program-program.ensures.kept in
     record {
       same = refl;
       stands = λ on. awaited_at m.options m.code.now a parts cell home c.in-Some.ensures.owner does.found.awaited;
-      found = found_at m.options m.code.now a parts.turn parts.turned x cell home c.in-Some.ensures.owner (does.found.told, does.told);
-      few = found_few m.options m.code.now cell.heap.owner parts.turn parts.turned cell checked.good (does.found.told, does.told);
+      found = found_at m.options m.code.now m.parts.blocks a parts.turn parts.turned x cell home c.in-Some.ensures.owner (does.found.told, kept);
+      hold = holds;
+      few = found_few m.options m.code.now m.parts.blocks cell.heap.owner parts.turn parts.turned cell checked.good (does.found.told, kept);
       fault = tt;
       words = does.words;
     }

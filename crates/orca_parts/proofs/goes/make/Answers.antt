@@ -10,7 +10,11 @@ use Rattle.orca_parts.proofs.Waking.{made_wakes}
 use Rattle.orca_parts.proofs.goes.make.Goals as goal
 use Rattle.letter_kinds.specs.Telling.{TellsOnly}
 use Rattle.actor_table.specs.Telling.{TableTells}
+use Rattle.actor_table.proofs.Bringing.{as_brought}
 use Rattle.actor_table.proofs.Telling.{fresh_untold, place_added}
+
+pub push_actor-requires-clause-brings : goal.push_actor-requires-clause-brings
+push_actor-requires-clause-brings c = as_brought c.new.result [] [] c.new.ensures.0 c.new.ensures.1 tt
 
 pub returns-clause-away : goal.returns-clause-away
 returns-clause-away c =

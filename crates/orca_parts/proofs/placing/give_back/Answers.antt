@@ -1,10 +1,14 @@
-use Rattle.std.proofs.Common.{◌≡◌, ◌==◌, ap, subst, ◌∙◌}
+use Rattle.std.proofs.Common.{◌≡◌, ◌==◌, ap, subst, ◌∙◌, arith}
 use Rattle.row_blocks.specs.Blocks.{without}
+use Rattle.row_blocks.proofs.GivenBack.{nothing_given}
 use Rattle.actor_cell.specs.declared.cell.Cell.{Cell}
 use Rattle.actor_table.specs.Slots.{slot_at}
 use Rattle.orca_parts.specs.Blocks.{OwnFit}
 use Rattle.orca_parts.proofs.Homes.{home_is}
 use Rattle.orca_parts.proofs.placing.give_back.Goals as goal
+
+pub returns-then-len-eq0 : goal.returns-then-len-eq0
+returns-then-len-eq0 c = nothing_given (λ n. n.owner == c.args.a) c.args.blocks.now (omega (arith, c.len.ensures))
 
 pub give_back_all-requires : goal.give_back_all-requires
 give_back_all-requires c =

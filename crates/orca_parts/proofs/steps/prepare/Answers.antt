@@ -5,7 +5,7 @@ use Rattle.orca_parts.specs.Ready.{told_first}
 use Rattle.orca_parts.proofs.Untold.{none_holds, ok_holds}
 use Rattle.actor_cell.specs.Cells.{as_cell}
 use Rattle.actor_table.specs.Slots.{slot_at}
-use Rattle.orca_parts.specs.Core.{HasFound}
+use Rattle.orca_parts.specs.Core.{HasFound, HoldsFound}
 use Rattle.orca_parts.specs.Reaping.{AckedAreHome}
 use Rattle.orca_parts.specs.Steps.{CanStep, ReapsAtHome}
 use Rattle.orca_parts.proofs.Giving.{seat_here}
@@ -23,6 +23,7 @@ prepare_go-requires g c =
       kept = c.requires.kept;
       hold = c.requires.hold;
       known = λ on. subst (λ e. HasFound e m) c.in-Go.is (c.requires.known on);
+      holds = λ on. subst (λ e. HoldsFound (g.W.RowWords.known c.args.words.now) e m) c.in-Go.is (c.requires.holds on);
     }
 
 pub prepare_collect-requires : goal.prepare_collect-requires

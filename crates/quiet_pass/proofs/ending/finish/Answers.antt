@@ -16,6 +16,7 @@ loop-e-preserved c =
       within = omega (arith, longer, c.len.ensures);
       book = (c.step.ensures.book.0 ∙ c.loop-e.invariant.book.0, c.step.ensures.book.1 ∙ c.loop-e.invariant.book.1);
       home = c.step.ensures.home;
+      none = c.step.ensures.none;
       on = goes_on c.args.orca.now.state before.state after.state c.args.book.now.entries entries c.step.new.book.entries c.in-Some.e
           c.loop-e.invariant.on (c.in-Some.ensures.whole c.loop-e.invariant.home) c.in-Ok.ensures.ok c.in-Ok.ensures.entry;
     }

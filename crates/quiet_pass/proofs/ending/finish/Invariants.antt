@@ -1,4 +1,4 @@
-use Rattle.std.proofs.Common.{◌≡◌, ◌≤◌, ◌-◌, length}
+use Rattle.std.proofs.Common.{◌≡◌, ◌≤◌, ◌-◌, [], length}
 use Rattle.orca_core.specs.Laws.{IsRunOf}
 use Rattle.orca_core.specs.Machine.{NoneIsAway}
 use Rattle.quiet_pass.specs.Ends.{GoesOnTo}
@@ -12,6 +12,7 @@ invariant-loop-e l = record {
   within : length l.book.entries ≤ l.budget;
   book : (l.book.weight ≡ l.fn.book.weight) × (l.book.trace ≡ l.fn.book.trace);
   home : NoneIsAway l.orca;
+  none : l.orca.blocks ≡ [];
   on : GoesOnTo l.fn.orca.state l.fn.book.entries l.orca.state l.book.entries;
 }
 

@@ -20,6 +20,7 @@ loop-i-init c =
       rest = (c.requires.run.0, subst (λ s. Leads next s book.entries c.requires.run.0) (sym start) c.requires.run.1);
       steps = c.in_ok-orca.ensures.steps;
       home = c.in_ok-orca.ensures.home;
+      none = c.in_ok-orca.ensures.blocks;
     }
 
 pub step-requires-clause-leads : goal.step-requires-clause-leads
@@ -41,6 +42,7 @@ loop-i-preserved c =
       rest = others_lead book.entries i e s c.at-e.ensures c.loop-i.invariant.rest u goes;
       steps = c.in_ok-step.ensures.steps ∙ ap (λ n. n + 1) c.loop-i.invariant.steps;
       home = c.step.ensures.home;
+      none = c.step.ensures.none;
     }
 
 pub returns : goal.returns

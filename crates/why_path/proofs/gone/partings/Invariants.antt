@@ -1,4 +1,4 @@
-use Rattle.std.proofs.Common.{◌≡◌, ◌++◌, drop}
+use Rattle.std.proofs.Common.{◌≡◌, ◌++◌, [], drop}
 use Rattle.event_rule.specs.Runs.{Leads}
 use Rattle.machine_rules.specs.Next.{next}
 use Rattle.machine_rules.specs.State.{State, first_state}
@@ -14,4 +14,5 @@ invariant-loop-i l = record {
   rest : (t : State) × Leads next l.orca.state (drop l.i l.book.entries) t;
   steps : l.orca.steps ≡ l.i;
   home : NoneIsAway l.orca;
+  none : l.orca.blocks ≡ [];
 }

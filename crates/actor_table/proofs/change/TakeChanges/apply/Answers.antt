@@ -1,6 +1,7 @@
 use Rattle.std.proofs.Common.{[], subst, sym}
 use Rattle.letter_kinds.specs.Telling.{TellsOnly, brought_in}
 use Rattle.actor_table.specs.Telling.{TellsWith}
+use Rattle.actor_table.proofs.Bringing.{brought_taken}
 use Rattle.actor_table.proofs.Telling.{with_taken}
 use Rattle.actor_table.proofs.change.TakeChanges.apply.Goals as goal
 
@@ -13,3 +14,6 @@ returns-clause-told c =
 
 pub returns-clause-lie : goal.returns-clause-lie
 returns-clause-lie c = λ _. c.apply_take.ensures.lie
+
+pub returns-clause-brings : goal.returns-clause-brings
+returns-clause-brings c = brought_taken c.args.mail.now c.take.new.self c.take.ensures.others.0 c.take.ensures.others.1

@@ -30,7 +30,7 @@ invariant_of-self g c =
     let bits = c.put_bits_after.ensures in
     bits_follow s.slots.items s.acting s.settling c.a.inside.0 c.index_mut-slot.result.now c.change-taken.new.slot c.self.invariant
     (home_within s.slots.items c.a.inside.0 can.cell can.home) c.index_mut-slot.ensures.value
-    (λ its. ap (λ o. unwrap_or o c.a.inside.0) c.change-taken.ensures.kept.owner ∙ its) c.put_bits_after.new.acting c.put_bits_after.new.settling bits.acting bits.settling
+    (λ its. ap (λ o. unwrap_or o c.a.inside.0) c.change-taken.ensures.kept.owner ∙ its) c.change-taken.ensures.brings c.put_bits_after.new.acting c.put_bits_after.new.settling bits.acting bits.settling
 
 pub returns-clause-rest : goal.returns-clause-rest
 returns-clause-rest g c =

@@ -1,8 +1,9 @@
-use Rattle.std.proofs.Common.{◌≡◌, length, set, ap, sym, subst, ◌∙◌, arith, rules}
+use Rattle.std.proofs.Common.{◌≡◌, length, set, ap, sym, subst, refl, ◌∙◌, arith, rules}
 use Rattle.actor_table.specs.declared.slot.Slot.{Slot}
 use Rattle.actor_table.specs.declared.slot.Place.TheVariants.{Home}
 use Rattle.actor_table.specs.Slots.{AreIndexed, Table, can_act, can_settle}
 use Rattle.actor_table.specs.Telling.{TableLies}
+use Rattle.actor_table.proofs.Bringing.{brings_home}
 use Rattle.actor_table.proofs.Lying.{lies_added}
 use Rattle.actor_table.proofs.Changing.{indexed_push}
 use Rattle.actor_table.proofs.table.ActorTable.push_actor.Goals as goal
@@ -19,7 +20,7 @@ invariant_of-self c =
     let len : c.self.inside.slots.len ≡ length slots = search rules in
     subst (λ xs. AreIndexed xs c.put_bits.new.acting c.put_bits.new.settling) (sym c.push_reserved.ensures.items)
     (indexed_push slots acting settling c.put_bits.new.acting c.put_bits.new.settling x c.self.invariant
-    (omega (arith, seen, c.requires.few)) (omega (arith, spare, c.requires.room, len)) (omega (arith, spare, c.requires.room, len)) (c.requires.owner ∙ sym seen)
+    (omega (arith, seen, c.requires.few)) (omega (arith, spare, c.requires.room, len)) (omega (arith, spare, c.requires.room, len)) (c.requires.owner ∙ sym seen) (brings_home x c.args.cell refl c.requires.brings)
     (c.put_bits.ensures.acting ∙ ap (λ n. set acting n (can_act x)) made) (c.put_bits.ensures.settling ∙ ap (λ n. set settling n (can_settle x)) made))
 
 pub returns-clause-lie : goal.returns-clause-lie

@@ -4,7 +4,10 @@ use Rattle.machine_rules.specs.Actors.{Seat}
 use Rattle.actor_cell.specs.Cells.{as_cell}
 use Rattle.actor_cell.specs.Tells.{Tells}
 use Rattle.letter_kinds.specs.Telling.{TellsOnly}
+use Rattle.mail_rows.specs.Mail.{Mail}
+use Rattle.actor_table.specs.Bringing.{AreBrought, BringsIts}
 use Rattle.actor_table.specs.Telling.{PlaceLies, PlaceTells, TableLies, TableTells}
+use Rattle.actor_table.proofs.Bringing.{brings_home}
 use Rattle.actor_table.proofs.Lying.{place_lies_in}
 use Rattle.actor_table.proofs.Telling.{place_tells, slot_back}
 use Rattle.actor_table.specs.declared.slot.Slot.{Slot}
@@ -15,9 +18,13 @@ use Rattle.actor_table.proofs.table.ActorTable.put_back.Goals as goal
 pub invariant_of-self : goal.invariant_of-self
 invariant_of-self c =
     let s = c.self.inside in
+    let x = c.put_back.new.slot in
     let away = inside (λ _ x. is_away x ≡ true) c.a.inside.0 _ _ _ c.self.view_is c.a.view_is c.requires.away in
-    bits_follow s.slots.items s.acting s.settling c.a.inside.0 c.index_mut-slot.result.now c.put_back.new.slot c.self.invariant (away_within s.slots.items c.a.inside.0 away)
-    c.index_mut-slot.ensures.value (λ _. search rules) c.put_bits.new.acting c.put_bits.new.settling c.put_bits.ensures.acting c.put_bits.ensures.settling
+    bits_follow s.slots.items s.acting s.settling c.a.inside.0 c.index_mut-slot.result.now x c.self.invariant (away_within s.slots.items c.a.inside.0 away)
+    c.index_mut-slot.ensures.value (λ _. search rules)
+    (λ (its : BringsIts c.index_mut-slot.result.now). brings_home x c.args.cell c.put_back.ensures.place
+    (subst (λ (m : Mail). AreBrought m.letters m.brought) (sym c.put_back.ensures.mail) its.brought))
+    c.put_bits.new.acting c.put_bits.new.settling c.put_bits.ensures.acting c.put_bits.ensures.settling
 
 pub returns-clause-actors : goal.returns-clause-actors
 returns-clause-actors c =

@@ -12,7 +12,7 @@ invariant_of-self g c =
     let s = c.self.inside in
     let does = c.reserve.ensures in
     index_stays s.slots.items s.acting s.settling c.a.inside.0 c.index_mut.result.now c.reserve.new.slot c.self.invariant (search rules) c.index_mut.ensures.value
-    does.seat does.kept.away does.kept.owner
+    does.seat does.kept.away does.kept.owner does.brings
 
 pub returns-clause-told : goal.returns-clause-told
 returns-clause-told g c =

@@ -2,8 +2,9 @@ use Rattle.std.proofs.Common.{[], ◌≤◌, ap, rules, set, subst, sym, ◌∙�
 use Rattle.letter_kinds.specs.Telling.{TellsOnly}
 use Rattle.actor_table.specs.Changes.{KeepsRoom}
 use Rattle.actor_table.specs.declared.slot.Slot.{Slot}
-use Rattle.actor_table.specs.Slots.{Table, actors_of, away_of, is_away, is_away_in, letters_in, places_of, seat_in, seat_of}
+use Rattle.actor_table.specs.Slots.{Table, actors_of, away_of, is_away, is_away_in, letters_in, owner_in, places_of, seat_in, seat_of}
 use Rattle.actor_table.specs.Telling.{PlaceLies, TableLies, TableTells}
+use Rattle.actor_table.proofs.Bringing.{brings_same}
 use Rattle.actor_table.proofs.Lying.{place_lies_in}
 use Rattle.actor_table.proofs.Telling.{place_tells_in, slot_same}
 use Rattle.actor_table.proofs.Changing.{index_stays, part_kept, place_read, room_kept}
@@ -15,6 +16,7 @@ invariant_of-self c =
     let does = c.reserve_letters.ensures in
     index_stays s.slots.items s.acting s.settling c.to.inside.0 c.index_mut.result.now c.reserve_letters.new.slot c.self.invariant (search rules) c.index_mut.ensures.value
     (search rules) (search rules) (search rules)
+    (brings_same c.reserve_letters.new.slot c.index_mut.result.now does.letters does.brought (ap owner_in does.place))
 
 pub returns-clause-same : goal.returns-clause-same
 returns-clause-same c =

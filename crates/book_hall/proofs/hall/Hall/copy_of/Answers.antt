@@ -4,6 +4,7 @@ use Rattle.behaviour_code.specs.WellFormed.{IsWellFormed}
 use Rattle.machine_rules.specs.Actors.{cell_at}
 use Rattle.actor_cell.specs.Tells.{Tells}
 use Rattle.orca_parts.proofs.Untold.{still_untold}
+use Rattle.orca_core.proofs.Blockless.{none_told}
 use Rattle.hall_rules.specs.Halls.{hall_state}
 use Rattle.hall_rules.proofs.Firsts.{event_of_actor}
 use Rattle.hall_rules.proofs.Keeping.{can_find}
@@ -19,9 +20,10 @@ invariant_of-result c =
     let good = subst IsWellFormed c.program-program.ensures.value c.program-program.ensures.kept.good in
     let can = can_find s.code.now s.budget s.orca s.book c.self.invariant.0 good copy
     (ap (cell_at s.orca.state.actors) owner ∙ (sym there ∙ ap Some (sym c.in_ok-copy.ensures.same.0))) in
+    let told = Tells c.in-Some.cell.now in
     record {
       its = event_of_actor (hall_state c.args.self.now) c.args.a c.args.event c.requires.event ∙ ap Some (sym owner);
       serials = can.serials;
       others = can.others;
-      untold = still_untold (Tells c.in-Some.cell.now) (Tells copy) c.in-Some.ensures.untold c.in_ok-copy.ensures.told;
+      untold = still_untold told (Tells copy) (none_told s.orca.blocks told c.self.invariant.2 c.in-Some.ensures.blocks) c.in_ok-copy.ensures.told;
     }

@@ -25,8 +25,8 @@ returns-in-Some c =
       rest = refl;
     })
 
-pub fitting-found-requires : goal.fitting-found-requires
-fitting-found-requires c =
+pub fitting-found-requires-clause-own : goal.fitting-found-requires-clause-own
+fitting-found-requires-clause-own c =
     let s = c.self.inside in let view = c.self.view_is in
     let run = machine_run s.code.now s.budget s.orca s.book c.self.invariant.0 in
     let program = sym (run.0 ∙ ap (λ (v : HallValue). v.program) view) in
@@ -37,7 +37,7 @@ pub enter-requires : goal.enter-requires
 enter-requires c =
     let s = c.self.inside in let kept = c.self.invariant in
     may_enter s.code.now s.budget s.orca s.book kept.0 c.holder_for-holder.result c.args.e c.in_default.ensures
-    (home_for s.orca kept.1 c.args.e) (reaps_at_home s.orca kept.1 c.args.e) _ c.fitting-found.ensures
+    (home_for s.orca kept.1 c.args.e) kept.2 (reaps_at_home s.orca kept.1 c.args.e) _ c.fitting-found.ensures
 
 pub invariant_of-self : goal.invariant_of-self
 invariant_of-self c =
@@ -45,6 +45,7 @@ invariant_of-self c =
       keeps s.code.now s.budget s.orca s.book kept.0 c.holder_for-holder.result c.args.e c.in_default.ensures c.enter.new.orca c.enter.new.book
           told.book c.enter.result told.ok told.refused,
       λ a. told.away a ∙ kept.1 a,
+      told.none,
     )
 
 pub returns : goal.returns

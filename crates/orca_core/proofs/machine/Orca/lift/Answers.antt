@@ -1,10 +1,16 @@
-use Rattle.std.proofs.Common.{subst, sym}
+use Rattle.std.proofs.Common.{◌<◌, length, subst, sym}
+use Rattle.std.specs.Prelude.{IfSome}
+use Rattle.orca_names.specs.declared.names.Thing.TheVariants.{Obj}
+use Rattle.machine_rules.specs.Left.{IsLeft}
+use Rattle.row_laws.specs.Laws.{HasBlocks}
 use Rattle.actor_table.specs.Telling.{TableTells}
 use Rattle.orca_parts.specs.Awaiting.{AwaitedIn}
 use Rattle.orca_parts.specs.Core.{core_state}
-use Rattle.orca_parts.proofs.Untold.{still_untold}
-use Rattle.orca_core.specs.Machine.{IsReached}
-use Rattle.orca_core.proofs.Untold.{lent_untold}
+use Rattle.actor_cell.specs.Tells.{AllIn, Tells}
+use Rattle.orca_parts.specs.Blocks.{AreKept}
+use Rattle.orca_core.specs.Machine.{IsReached, Machine}
+use Rattle.orca_core.proofs.Kept.{kept_still}
+use Rattle.orca_core.proofs.Untold.{lent_kept, lent_lies}
 use Rattle.orca_core.proofs.machine.Orca.lift.Goals as goal
 
 pub invariant_of-self : goal.invariant_of-self
@@ -12,12 +18,28 @@ invariant_of-self c =
     let m = c.self.inside in
     let parts = m.core.parts in
     let does = c.lift.ensures in
+    let fit = c.self.invariant.fit in
     record {
       reached = subst (λ xs. IsReached (record (core_state m.core) { actors = xs }) m.steps) (sym does.actors) c.self.invariant.reached;
       stands = λ on. subst (AwaitedIn m.core.options.trace m.core.code.now parts.turn parts.turned) (sym does.actors) (c.self.invariant.stands on);
-      none = c.self.invariant.none;
-      untold = still_untold (TableTells parts.table.slots) (TableTells c.lift.new.self.slots) c.self.invariant.untold does.told;
+      fit = record {
+        deep = fit.deep;
+        lie = λ some. does.lie (fit.lie some);
+        kept = kept_still parts.blocks (TableTells parts.table.slots) (TableTells c.lift.new.self.slots) fit.kept does.told;
+        left = λ k n has. subst (λ xs. IsLeft xs (Obj n)) (sym does.actors) (fit.left k n has);
+        once = fit.once;
+      };
+      has = λ some. subst (λ xs. HasBlocks (record (core_state m.core) { actors = xs }) parts.blocks) (sym does.actors) (c.self.invariant.has some);
     }
 
-pub returns-clause-untold : goal.returns-clause-untold
-returns-clause-untold c = lent_untold c.self.inside.core.parts.table.slots c.args.a c.lift.result c.self.invariant.untold c.lift.ensures.cell
+pub returns-clause-kept : goal.returns-clause-kept
+returns-clause-kept c =
+    let m = c.self.inside.core.parts in
+    subst (λ (x : Machine). IfSome c.lift.result (λ cell. AreKept x.blocks (Tells cell))) c.self.view_is
+    (lent_kept m.blocks m.table.slots c.args.a c.lift.result c.self.invariant.fit.kept c.lift.ensures.cell)
+
+pub returns-clause-lie : goal.returns-clause-lie
+returns-clause-lie c =
+    let m = c.self.inside.core.parts in
+    subst (λ (x : Machine). 0 < length x.blocks → IfSome c.lift.result (λ cell. AllIn cell.heap)) c.self.view_is
+    (λ some. lent_lies m.table.slots c.args.a c.lift.result (c.self.invariant.fit.lie some) c.lift.ensures.cell)

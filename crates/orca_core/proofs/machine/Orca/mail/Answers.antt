@@ -1,5 +1,13 @@
-use Rattle.orca_core.proofs.Untold.{mail_untold}
+use Rattle.std.proofs.Common.{subst}
+use Rattle.std.specs.Prelude.{IfSome}
+use Rattle.letter_kinds.specs.Telling.{ToldByOne}
+use Rattle.orca_parts.specs.Blocks.{AreKept}
+use Rattle.orca_core.specs.Machine.{Machine}
+use Rattle.orca_core.proofs.Untold.{mail_kept}
 use Rattle.orca_core.proofs.machine.Orca.mail.Goals as goal
 
-pub returns-clause-untold : goal.returns-clause-untold
-returns-clause-untold c = mail_untold c.self.inside.core.parts.table.slots c.args.a c.mail.result c.self.invariant.untold c.mail.ensures
+pub returns-clause-blocks : goal.returns-clause-blocks
+returns-clause-blocks c =
+    let m = c.self.inside.core.parts in
+    subst (λ (x : Machine). IfSome c.mail.result (λ mail. AreKept x.blocks (ToldByOne mail.now.brought))) c.self.view_is
+    (mail_kept m.blocks m.table.slots c.args.a c.mail.result c.self.invariant.fit.kept c.mail.ensures)

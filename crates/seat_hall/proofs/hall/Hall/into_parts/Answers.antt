@@ -15,4 +15,5 @@ returns c =
       whole = are_parts s.code.now s.budget s.orca s.book kept.one
           (λ a. free_is_home s.code.now s.budget s.orca s.book s.claims.items s.rooms kept a (free a))
           (listed 0 s.claims.items) s.stopped _ (ap (λ (h : HallView). plain h.logged) c.self.view_is);
+      blockless = kept.none;
     }

@@ -6,6 +6,7 @@ use Rattle.actor_cell.specs.declared.cell.Cell.{Cell}
 use Rattle.letter_kinds.specs.Telling.{TellsNothing}
 use Rattle.actor_cell.specs.Cells.{as_cell}
 use Rattle.actor_cell.specs.Tells.{Tells}
+use Rattle.orca_core.proofs.Blockless.{none_told}
 use Rattle.hall_rules.specs.Causes.{event_at}
 use Rattle.hall_rules.proofs.Firsts.{event_of_actor}
 use Rattle.hall_rules.proofs.Keeping.{can_find}
@@ -38,7 +39,7 @@ invariant_of-self c =
     subst (λ (a : ℕ). HallKeeps s.code.now s.budget c.lift.new.self s.book (set s.claims.items a (Some c.args.pass)) c.fill-cell.new.self)
     (sym c.a.view_is)
     (kept_claimed s.code.now s.budget s.orca s.book s.claims.items s.rooms c.self.invariant a free c.args.event has c.lift.new.self c.args.pass
-    lent.state lent.steps lent.out lent.lent c.fill-cell.new.self fill.free fill.out)
+    lent.state lent.steps lent.out lent.blocks lent.lent c.fill-cell.new.self fill.free fill.out)
 
 pub invariant_of-result : goal.invariant_of-result
 invariant_of-result c =
@@ -54,5 +55,6 @@ invariant_of-result c =
       its = event_of_actor (state_in c.args.self.now.logged) a c.args.event c.requires.event ∙ ap Some (sym owner);
       serials = can.serials;
       others = can.others;
-      untold = subst (λ x. TellsNothing (Tells x)) (sym c.fill-cell.ensures.cell) c.in-Some.ensures.untold;
+      untold = subst (λ x. TellsNothing (Tells x)) (sym c.fill-cell.ensures.cell)
+          (none_told s.orca.blocks (Tells c.in-Some.cell) kept.none c.in-Some.ensures.kept);
     }

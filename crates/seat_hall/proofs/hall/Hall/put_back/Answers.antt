@@ -1,4 +1,4 @@
-use Rattle.std.proofs.Common.{◌≡◌, ℕ, None, Some, set, sym, ap, subst, ◌∙◌}
+use Rattle.std.proofs.Common.{◌≡◌, ℕ, None, Some, length, set, sym, ap, subst, ◌∙◌, arith}
 use Rattle.letter_kinds.specs.Telling.{TellsNothing}
 use Rattle.actor_cell.specs.Tells.{Tells}
 use Rattle.seat_hall.specs.Halls.{HallView, HallKeeps}
@@ -13,8 +13,12 @@ empty-cell-requires c =
     ap (λ (h : HallView). claim_in h.logged.claims c.args.room.heap.owner) c.self.view_is ∙ c.requires.has.claimed in
     room_is_out s.code.now s.budget s.orca s.book s.claims.items s.rooms c.self.invariant c.args.room.heap.owner c.args.pass mine
 
-pub put_back-requires-clause-untold : goal.put_back-requires-clause-untold
-put_back-requires-clause-untold c = subst (λ cell. TellsNothing (Tells cell)) (sym c.empty-cell.ensures.cell) c.requires.untold
+pub put_back-requires-clause-told : goal.put_back-requires-clause-told
+put_back-requires-clause-told c = λ n row block told.
+    absurd (subst (λ cell. TellsNothing (Tells cell)) (sym c.empty-cell.ensures.cell) c.requires.untold n row block told)
+
+pub put_back-requires-clause-lie : goal.put_back-requires-clause-lie
+put_back-requires-clause-lie c = λ some. absurd (omega (arith, some, ap length c.self.invariant.none))
 
 pub invariant_of-self : goal.invariant_of-self
 invariant_of-self c =
@@ -27,4 +31,4 @@ invariant_of-self c =
     subst (λ (a : ℕ). HallKeeps s.code.now s.budget c.put_back.new.self s.book (set s.claims.items a None) c.empty-cell.new.self)
     (sym c.a.view_is)
     (kept_ended s.code.now s.budget s.orca s.book s.claims.items s.rooms c.self.invariant c.put_back.new.self a c.args.pass
-    back.state back.steps back.out mine c.empty-cell.new.self c.empty-cell.ensures.free c.empty-cell.ensures.out)
+    back.state back.steps back.out back.blocks mine c.empty-cell.new.self c.empty-cell.ensures.free c.empty-cell.ensures.out)

@@ -1,4 +1,4 @@
-use Rattle.std.proofs.Common.{Box, Global, Some, rules, subst, ◌≡◌}
+use Rattle.std.proofs.Common.{Box, Global, rules, subst, ◌≡◌}
 use Rattle.std.specs.Box.{with_value}
 use Rattle.actor_cell.specs.declared.found.Found.{Found}
 use Rattle.seat_hall.specs.Found.{IsFoundOn}

@@ -1,0 +1,7 @@
+use Rattle.machine_check.proofs.Blocked.{begins}
+use Rattle.machine_check.proofs.block_tests.one_block_serves.Goals as goal
+
+pub serves_twice-requires : goal.serves_twice-requires
+serves_twice-requires c =
+    let starts = c.in_ok-orca.ensures in
+    begins c.in_ok-orca.orca c.in_ok-words.words.items 1 starts.home starts.stand starts.blocks c.in_ok-words.ensures
