@@ -19,6 +19,8 @@ use Rattle.machine_laws.proofs.WholeRuns.{never_too_early}
 use Rattle.orca_core.specs.Laws.{IsRunOf}
 use Rattle.machine_laws.specs.Laws.{IsLeftExactly}
 use Rattle.orca_core.specs.Machine.{NoneIsAway, Machine as Orca}
+use Rattle.block_table.specs.Blocks.{Blocks}
+use Rattle.orca_core.proofs.Blockless.{none_still}
 use Rattle.quiet_pass.specs.Ends.{EndsSo, GoesOnTo}
 use Rattle.quiet_pass.specs.declared.ending.End.{End}
 use Rattle.quiet_pass.specs.declared.ending.End.TheVariants as ends
@@ -83,9 +85,9 @@ in_order_on next s t u (e ∷ book) later h on = (h.0, (h.1.0, h.1.1, in_order_o
 -- one worker goes on with it
 pub goes_on_under_way : (order : Order) (program : Program) (m n : Orca) (book longer : BookValue) → IsUnderWay order program m book
     → IsRunOf n longer.entries → n.state.program ≡ m.state.program → n.state.options ≡ m.state.options
-    → (longer.weight ≡ book.weight) × (longer.trace ≡ book.trace) → length longer.entries ≤ order.budget → NoneIsAway n → n.blocks ≡ []
-    → GoesOnTo m.state book.entries n.state longer.entries → IsUnderWay order program n longer
-goes_on_under_way order program m n book longer h run same_program same_options same within home none on = record {
+    → (longer.weight ≡ book.weight) × (longer.trace ≡ book.trace) → length longer.entries ≤ order.budget → NoneIsAway n → length n.blocks ≡ length m.blocks
+    → GoesOnTo m book.entries n longer.entries → IsUnderWay order program n longer
+goes_on_under_way order program m n book longer h run same_program same_options same within home size on = record {
   program_is = same_program ∙ h.program_is;
   run = run;
   options = same_options ∙ h.options;
@@ -93,17 +95,18 @@ goes_on_under_way order program m n book longer h run same_program same_options 
   trace = same.1 ∙ h.trace;
   within = within;
   home = home;
-  none = none;
+  none = none_still m.blocks n.blocks h.none size;
   in_order = λ single. subst (λ (b : List Event). LeadsInOrder next (first_state program (options_in order)) b n.state) (sym on.added)
       (in_order_on next (first_state program (options_in order)) m.state n.state book.entries on.later (h.in_order single) on.leads);
 }
 
 -- ---- how a run ended, and how the call ends then
 
-pub ends_with : (end : End) (answer : Status) → IsAnswerOf end (Some answer) → (s : State) (book : List Event) (budget : ℕ) → EndsSo end s (length book) budget
+pub ends_with : (end : End) (answer : Status) → IsAnswerOf end (Some answer) → (s : State) (blocks : Blocks) (book : List Event) (budget : ℕ) → EndsSo end s blocks (length book) budget
     → EndsWith answer s book budget
-ends_with ends.Quiet answer is s book budget h = let same : status.Quiet ≡ answer = cc in subst (λ (a : Status). EndsWith a s book budget) same h
-ends_with ends.Budget answer is s book budget h = let same : status.Budget ≡ answer = cc in subst (λ (a : Status). EndsWith a s book budget) same h
-ends_with (ends.Full actor) answer is s book budget h =
+ends_with ends.Quiet answer is s blocks book budget h = let same : status.Quiet ≡ answer = cc in subst (λ (a : Status). EndsWith a s book budget) same h
+ends_with ends.Budget answer is s blocks book budget h = let same : status.Budget ≡ answer = cc in subst (λ (a : Status). EndsWith a s book budget) same h
+ends_with (ends.Full actor) answer is s blocks book budget h =
     let same : status.ActorsFull actor ≡ answer = cc in subst (λ (a : Status). EndsWith a s book budget) same h
-ends_with ends.NoMemory answer is s book budget h = absurd (cc)
+ends_with (ends.NoRows actor) answer is s blocks book budget h = absurd is
+ends_with ends.NoMemory answer is s blocks book budget h = absurd (cc)

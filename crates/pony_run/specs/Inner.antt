@@ -38,6 +38,7 @@ abbrev pub IsAnswerOf : End → Option Status → Type 0
 IsAnswerOf ends.Quiet answer = answer ≡ Some status.Quiet
 IsAnswerOf ends.Budget answer = answer ≡ Some status.Budget
 IsAnswerOf (ends.Full actor) answer = answer ≡ Some (status.ActorsFull actor)
+IsAnswerOf (ends.NoRows actor) answer = ⊥
 IsAnswerOf ends.NoMemory answer = answer ≡ None
 
 -- ---- a run begins

@@ -1,6 +1,6 @@
 // A checked program is run, by one worker or by several, and its report is written.
 
-ghost use Rattle.std.specs.Prelude.{◌≡◌, ◌≢◌, []};
+ghost use Rattle.std.specs.Prelude.{◌≡◌, ◌≢◌, ℕ, []};
 ghost use Rattle.report_text.specs.Ends.{IsEnd};
 ghost use Rattle.word_line.specs.Orders.{IsInRange};
 ghost use Rattle.pony_run.specs.Inner.{IsAnswerOf, IsUnderWay, RunAnswers, WritesReport};
@@ -15,6 +15,7 @@ use orca_names::NoMemory;
 use outside_world::{Gate, Sink};
 use quiet_pass::{End, finish};
 use report_text::Status;
+use row_store::NoBlocks;
 use run_book::Book;
 use std::alloc::Global;
 use std::sync::Wait;
@@ -54,6 +55,7 @@ fn write_report<K: Sink>(
 
 /// How a call ends whose run ended so, if its report is written; want of memory has none.
 fn answer_of(end: End) -> Option<Status>
+    requires { (actor : ℕ) → end ≢ End.NoRows actor }
     ensures { IsAnswerOf end result }
 {
     match end {
@@ -61,6 +63,7 @@ fn answer_of(end: End) -> Option<Status>
         End::Budget => Some(Status::Budget),
         End::Full { actor } => Some(Status::ActorsFull { actor }),
         End::NoMemory => None,
+        End::NoRows { .. } => unreachable!(),
     }
 }
 
@@ -80,7 +83,13 @@ fn end_run<K: Sink>(
 {
     let mut orca = orca;
     let mut book = book;
-    let end = finish(alloc, &mut orca, &mut book, order.budget);
+    let end = finish(
+        alloc,
+        &mut orca,
+        &mut book,
+        order.budget,
+        &mut NoBlocks::default(),
+    );
     let Some(answer) = answer_of(end) else {
         return Outcome {
             status: Status::NoMemory,

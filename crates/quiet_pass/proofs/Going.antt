@@ -1,13 +1,15 @@
 -- One worker goes on by an event, and where it cannot, the run ends.
-use Rattle.std.proofs.Common.{◌≡◌, ◌+◌, ◌++◌, List, [], ◌∷◌, length, length-append, append_assoc, refl, sym, ap, subst, ◌∙◌}
+use Rattle.std.proofs.Common.{◌≡◌, ◌+◌, ◌++◌, List, [], ◌∷◌, length, length-append, append_assoc, refl, sym, ap, subst, ◌∙◌, arith}
 use Rattle.event_rule.specs.Runs.{Goes, IsFirst, LeadsInOrder}
 use Rattle.event_rule.specs.declared.event.Event.{Event}
+use Rattle.block_table.specs.Blocks.{Blocks}
 use Rattle.machine_rules.specs.Next.{next}
 use Rattle.machine_rules.specs.Run.{IsRun}
 use Rattle.machine_rules.specs.State.{State}
+use Rattle.row_laws.specs.Blocks.{Fits, LeadsWithBlocks, blocks_after}
 use Rattle.cell_laws.proofs.Keeping.{runs_keep_program}
 use Rattle.orca_core.specs.Laws.{IsRunOf}
-use Rattle.orca_core.specs.Machine.{Machine}
+use Rattle.orca_core.specs.Machine.{HasRoomFor, Machine}
 use Rattle.orca_core.proofs.Reached.{leads_more}
 use Rattle.quiet_pass.specs.Ends.{GoesOnTo}
 
@@ -16,13 +18,23 @@ in_order_more : (later : List Event) (s t u : State) (e : Event) → LeadsInOrde
 in_order_more [] s t u e same first goes = let P : State → Type 0 = λ v. LeadsInOrder next v (e ∷ []) u in subst P (sym same) (first, (u, goes, refl))
 in_order_more (f ∷ later) s t u e (one, (v, went, leads)) first goes = (one, (v, went, in_order_more later v t u e leads first goes))
 
+-- so does one with blocks, where there are enough of them
+with_blocks_more : (later : List Event) (s t u : State) (first mid last : Blocks) (e : Event) → LeadsWithBlocks s first later t mid → next t e ≡ Goes u → Fits t e u mid
+    → last ≡ blocks_after t e u mid → LeadsWithBlocks s first (later ++ e ∷ []) u last
+with_blocks_more [] s t u first mid last e (same, is) goes fits after =
+    subst (λ (x : State × Blocks). LeadsWithBlocks x.0 x.1 (e ∷ []) u last) (λ i. (sym same i, sym is i)) (u, goes, fits, (refl, sym after))
+with_blocks_more (f ∷ later) s t u first mid last e (v, went, fit, leads) goes fits after =
+    (v, went, fit, with_blocks_more later v t u (blocks_after s f v first) mid last e leads goes fits after)
+
 -- so what was added to the book leads on
-pub goes_on : (s t u : State) (book longer entered : List Event) (e : Event) → GoesOnTo s book t longer → IsFirst next t e → next t e ≡ Goes u → entered ≡ longer ++ e ∷ []
-    → GoesOnTo s book u entered
-goes_on s t u book longer entered e on first goes entry = record {
+pub goes_on : (m n k : Machine) (book longer entered : List Event) (e : Event) → GoesOnTo m book n longer → IsFirst next n.state e → next n.state e ≡ Goes k.state
+    → length n.blocks ≡ length m.blocks → HasRoomFor n.state e k.state n.blocks → k.blocks ≡ blocks_after n.state e k.state n.blocks → entered ≡ longer ++ e ∷ []
+    → GoesOnTo m book k entered
+goes_on m n k book longer entered e on first goes size room after entry = record {
   later = on.later ++ e ∷ [];
   added = entry ∙ ap (λ xs. xs ++ e ∷ []) on.added ∙ append_assoc book on.later (e ∷ []);
-  leads = in_order_more on.later s t u e on.leads first goes;
+  leads = in_order_more on.later m.state n.state k.state e on.leads first goes;
+  blocks = λ some. with_blocks_more on.later m.state n.state k.state m.blocks n.blocks k.blocks e (on.blocks some) goes (room (omega (arith, some, size))) after;
 }
 
 -- and the whole book is a run of the program still, under the same options

@@ -17,6 +17,7 @@ use orca_core::Orca;
 use orca_names::{ActorName, NoMemory, Thing, Trace};
 use outside_world::OpenGate;
 use quiet_pass::{End, finish};
+use row_store::NoBlocks;
 use run_book::Book;
 use seat_hall::{Closing, HallSeat, SeatHall, SeatPass};
 use std::alloc::Global;
@@ -221,7 +222,7 @@ fn finishes_with_first(alloc: Global, orca: &mut Orca<'_>, book: &mut Book) -> b
     requires none { orca.old.blocks ≡ [] }
     requires within { length book.old.entries ≤ BUDGET }
 {
-    let end = finish(alloc, orca, book, BUDGET);
+    let end = finish(alloc, orca, book, BUDGET, &mut NoBlocks::default());
     matches!(end, End::Quiet) && is_first_left(alloc, orca) && has_report(alloc, orca, PEERS_REPORT)
 }
 
