@@ -16,7 +16,7 @@ use Rattle.letter_kinds.specs.Counting.{Loaded}
 use Rattle.letter_kinds.specs.Holdings.{Row}
 use Rattle.letter_kinds.specs.Letters.{Letter, App, Inc, Dec, Confirm, as_letter}
 use Rattle.letter_kinds.specs.Load.{as_load, as_loaded}
-use Rattle.letter_kinds.specs.Sums.{load_count, times_loaded}
+use Rattle.letter_kinds.specs.Sums.{brought_by, load_count, times_loaded}
 use Rattle.letter_kinds.specs.Telling.{Brought, Told, ToldByOne, all_brought, brought_in, in_block, nothing_brought}
 use Rattle.letter_kinds.specs.declared.letter.Letter as code
 use Rattle.letter_kinds.specs.declared.letter.Letter.TheVariants as sent
@@ -27,7 +27,7 @@ use Rattle.actor_cell.specs.declared.cell.Cell.{Cell}
 use Rattle.actor_table.specs.declared.slot.Slot.{Slot}
 use Rattle.actor_table.specs.declared.slot.Place.{Place}
 use Rattle.actor_table.specs.declared.slot.Place.TheVariants.{Home, Away, Gone}
-use Rattle.actor_table.specs.Bringing.{AreBrought, Brings, BringsIts, carried_by}
+use Rattle.actor_table.specs.Bringing.{AreBrought, Brings, BringsIts}
 use Rattle.actor_table.specs.Slots.{gone, owner_in, seat_in, seat_of, slot_at}
 
 -- ---- letters come and go
@@ -158,13 +158,13 @@ loads_app x behaviour args load rows = refl
 -- the first letter does one of both
 told_first : (letter : Letter) (letters : List Letter) (b : Brought) → Brings letter b → (n : ObjName) (row : Row) (block : ℕ)
     → Told (all_brought b) n row block
-    → (0 < sum_by (load_count (Obj n)) (letter ∷ letters)) ⊎ Contains (carried_by (letter ∷ letters)) (Obj n, Some row)
+    → (0 < sum_by (load_count (Obj n)) (letter ∷ letters)) ⊎ Contains (brought_by (letter ∷ letters)) (Obj n, Some row)
 told_first (App behaviour args load rows) letters b brings n row block told = ⊎_elim
     (λ its. inl (
     let count = counted_among load (Obj n) (Some row) (subst (λ l. Contains l (Obj n, Some row)) brings.0 (as_loaded_among b.load n row block its)) in
     omega (arith, count, loads_app (Obj n) behaviour args load rows, sum_by-cons (load_count (Obj n)) (App behaviour args load rows) letters)
     ))
-    (λ its. inr (Contains-append_left rows (carried_by letters) (Obj n, Some row)
+    (λ its. inr (Contains-append_left rows (brought_by letters) (Obj n, Some row)
     (subst (λ l. Contains l (Obj n, Some row)) brings.1 (as_loaded_among b.rows n row block its))))
     (Contains-append_cases b.load b.rows (in_block n row block) told)
 told_first (Inc things) letters b brings n row block told = absurd (nothing_told b brings n row block told)
@@ -172,8 +172,8 @@ told_first (Dec things) letters b brings n row block told = absurd (nothing_told
 told_first (Confirm token) letters b brings n row block told = absurd (nothing_told b brings n row block told)
 
 -- what later letters carry
-carried_later : (letter : Letter) (letters : List Letter) (x : Loaded) → Contains (carried_by letters) x → Contains (carried_by (letter ∷ letters)) x
-carried_later (App behaviour args load rows) letters x among = Contains-append_right rows (carried_by letters) x among
+carried_later : (letter : Letter) (letters : List Letter) (x : Loaded) → Contains (brought_by letters) x → Contains (brought_by (letter ∷ letters)) x
+carried_later (App behaviour args load rows) letters x among = Contains-append_right rows (brought_by letters) x among
 carried_later (Inc things) letters x among = among
 carried_later (Dec things) letters x among = among
 carried_later (Confirm token) letters x among = among
@@ -181,7 +181,7 @@ carried_later (Confirm token) letters x among = among
 -- a letter that tells of an object's row loads the object, or carries its row
 pub told_brought : (letters : List Letter) (brought : List Brought) → AreBrought letters brought → (n : ObjName) (row : Row) (block : ℕ)
     → ToldByOne brought n row block
-    → (0 < sum_by (load_count (Obj n)) letters) ⊎ Contains (carried_by letters) (Obj n, Some row)
+    → (0 < sum_by (load_count (Obj n)) letters) ⊎ Contains (brought_by letters) (Obj n, Some row)
 told_brought [] [] all n row block (zero, told) = absurd (none_among (in_block n row block) told)
 told_brought [] [] all n row block (suc i, told) = absurd (none_among (in_block n row block) told)
 told_brought [] (b ∷ brought) all n row block told = absurd all

@@ -1,7 +1,6 @@
 -- What the letters that wait tell of rows is what they bring as the rules have them. Who is gone has no
 -- letters.
-use Rattle.std.specs.Prelude.{◌≡◌, ◌++◌, ⊤, List, [], ◌∷◌}
-use Rattle.letter_kinds.specs.Counting.{Loaded}
+use Rattle.std.specs.Prelude.{◌≡◌, ⊤, List, [], ◌∷◌}
 use Rattle.letter_kinds.specs.Letters.{Letter, App, Inc, Dec, Confirm}
 use Rattle.letter_kinds.specs.Load.{as_load}
 use Rattle.letter_kinds.specs.Telling.{Brought, nothing_brought}
@@ -26,11 +25,3 @@ AreBrought (letter ∷ letters) [] = ⊥
 pub record BringsIts (x : Slot) : Type 0 where
   pub brought : AreBrought x.mail.letters x.mail.brought
   pub none : x.place ≡ Gone → x.mail.brought ≡ []
-
--- the things that the letters bring uncounted, objects with their rows
-abbrev pub carried_by : List Letter → List Loaded
-carried_by [] = []
-carried_by (App behaviour args load rows ∷ mail) = rows ++ carried_by mail
-carried_by (Inc things ∷ mail) = carried_by mail
-carried_by (Dec things ∷ mail) = carried_by mail
-carried_by (Confirm token ∷ mail) = carried_by mail

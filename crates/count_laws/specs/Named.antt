@@ -1,13 +1,12 @@
 -- What actors name and reach, and that none of it was freed.
-use Rattle.std.specs.Prelude.{ℕ, ◌<◌, ◌≡◌, Contains, List, [], ◌∷◌, ◌++◌, Option, Some, flat_map, sum_by}
+use Rattle.std.specs.Prelude.{ℕ, ◌<◌, ◌≡◌, Contains, List, Option, Some, flat_map, sum_by}
 use Rattle.orca_names.specs.declared.names.ObjName.{ObjName}
 use Rattle.orca_names.specs.declared.names.Thing.{Thing}
 use Rattle.orca_names.specs.declared.names.Thing.TheVariants.{Obj}
 use Rattle.reach_walk.specs.Reach.{thing_row}
-use Rattle.letter_kinds.specs.Counting.{Loaded}
 use Rattle.letter_kinds.specs.Holdings.{Row}
-use Rattle.letter_kinds.specs.Sums.{dec_of, inc_of, load_count}
-use Rattle.letter_kinds.specs.Letters.{Letter, App, Inc, Dec, Confirm}
+use Rattle.letter_kinds.specs.Sums.{brought_by, dec_of, inc_of, load_count}
+use Rattle.letter_kinds.specs.Letters.{Letter}
 use Rattle.machine_rules.specs.Actors.{Actors, Every}
 use Rattle.machine_rules.specs.Cell.{Cell, row_by, row_by_roots}
 use Rattle.machine_rules.specs.Left.{IsLeft}
@@ -36,14 +35,6 @@ ReachesNothingFreed trace actors =
     → IsLeft actors x) actors
 
 -- ---- root-only tracing: all rows that actors have, and those that letters bring
-
--- the things that waiting letters bring, objects with their rows
-abbrev pub brought_by : List Letter → List Loaded
-brought_by [] = []
-brought_by (App behaviour args load rows ∷ mail) = rows ++ brought_by mail
-brought_by (Inc things ∷ mail) = brought_by mail
-brought_by (Dec things ∷ mail) = brought_by mail
-brought_by (Confirm token ∷ mail) = brought_by mail
 
 -- a present actor has the row of it, or a row that names it; or a waiting letter brings it, or a
 -- row that names it

@@ -1,5 +1,5 @@
--- How much a letter says of a thing.
-use Rattle.std.specs.Prelude.{ℕ, List, if◌then◌else◌, sum_by}
+-- How much letters say of a thing, and what they bring.
+use Rattle.std.specs.Prelude.{ℕ, List, [], ◌∷◌, ◌++◌, if◌then◌else◌, sum_by}
 use Rattle.orca_names.specs.Names.{is_thing, times_among}
 use Rattle.orca_names.specs.declared.names.Thing.{Thing}
 use Rattle.letter_kinds.specs.Letters.{Letter, App, Inc, Dec, Confirm}
@@ -33,3 +33,11 @@ load_count x (App behaviour args load rows) = times_loaded x load
 load_count x (Inc things) = 0
 load_count x (Dec things) = 0
 load_count x (Confirm token) = 0
+
+-- the things that letters bring uncounted, objects with their rows
+abbrev pub brought_by : List Letter → List Loaded
+brought_by [] = []
+brought_by (App behaviour args load rows ∷ mail) = rows ++ brought_by mail
+brought_by (Inc things ∷ mail) = brought_by mail
+brought_by (Dec things ∷ mail) = brought_by mail
+brought_by (Confirm token ∷ mail) = brought_by mail

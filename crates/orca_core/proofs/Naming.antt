@@ -7,12 +7,12 @@ use Rattle.orca_names.specs.declared.names.Thing.{Thing}
 use Rattle.orca_names.specs.declared.names.Thing.TheVariants.{Obj}
 use Rattle.letter_kinds.specs.Holdings.{Row, entry_count, entry_row, has_own, held_in}
 use Rattle.letter_kinds.specs.Letters.{Letter}
-use Rattle.letter_kinds.specs.Sums.{load_count}
+use Rattle.letter_kinds.specs.Sums.{brought_by, load_count}
 use Rattle.letter_kinds.specs.Telling.{ToldByOne}
 use Rattle.machine_rules.specs.Actors.{Actors, Every, seat, seat_at}
 use Rattle.machine_rules.specs.Left.{IsLeft}
 use Rattle.count_laws.specs.Known.{in_table}
-use Rattle.count_laws.specs.Named.{NamesNothingFreed, brought_by, by_load, by_root}
+use Rattle.count_laws.specs.Named.{NamesNothingFreed, by_load, by_root}
 use Rattle.row_laws.specs.Laws.{BringsNone}
 use Rattle.object_heap.specs.Heap.{own_row}
 use Rattle.foreign_table.specs.Table.{known_row}

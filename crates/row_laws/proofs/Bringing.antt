@@ -30,7 +30,7 @@ use Rattle.machine_rules.proofs.Stepping.{step_of}
 use Rattle.count_laws.proofs.bounds.Bounding.{options_stay}
 use Rattle.count_laws.proofs.events.Every.{every_decs, every_more, every_push, every_set}
 use Rattle.count_laws.proofs.events.Reap.{every_reap}
-use Rattle.count_laws.specs.Named.{brought_by}
+use Rattle.letter_kinds.specs.Sums.{brought_by}
 use Rattle.row_laws.specs.Laws.{BringsNone, DeepBringsNone}
 
 abbrev Brings : ℕ → Cell → List Letter → Type 0

@@ -9,6 +9,7 @@ use Rattle.behaviour_code.specs.declared.code.Program.{Program}
 use Rattle.event_rule.specs.Runs.{Goes}
 use Rattle.event_rule.specs.declared.event.Event.{Event}
 use Rattle.letter_kinds.specs.Letters.{Letter}
+use Rattle.letter_kinds.specs.Sums.{brought_by}
 use Rattle.machine_rules.specs.Actors.{Actors, Every, seat, seat_at}
 use Rattle.machine_rules.specs.Cell.{Cell}
 use Rattle.machine_rules.specs.Left.{IsLeft}
@@ -17,7 +18,7 @@ use Rattle.machine_rules.specs.Options.{Options}
 use Rattle.machine_rules.specs.Run.{IsRun}
 use Rattle.machine_rules.specs.State.{State, first_state}
 use Rattle.count_laws.specs.Gone.{HasName}
-use Rattle.count_laws.specs.Named.{IsNamedBy, NamesNothingFreed, brought_by}
+use Rattle.count_laws.specs.Named.{IsNamedBy, NamesNothingFreed}
 use Rattle.block_table.specs.Blocks.{Blocks, count_free, free_blocks}
 use Rattle.row_laws.specs.Blocks.{AreBlocksOf, Fits, IsRowRun, LacksBlocks, LeadsWithBlocks, blocks_after, is_freed_by, made_by, objects_left}
 

@@ -12,7 +12,7 @@ use Rattle.reach_walk.specs.Reach.{owned, root, thing_row}
 use Rattle.letter_kinds.proofs.Counts.{loaded-same, loaded_more}
 use Rattle.letter_kinds.specs.Counting.{Loaded}
 use Rattle.letter_kinds.specs.Holdings.{Row}
-use Rattle.letter_kinds.specs.Sums.{load_count, times_loaded}
+use Rattle.letter_kinds.specs.Sums.{brought_by, load_count, times_loaded}
 use Rattle.letter_kinds.specs.Letters.{Letter, App, Inc, Dec, Confirm}
 use Rattle.machine_rules.specs.Actors.{Actors, seat, seat_at}
 use Rattle.machine_rules.specs.Cell.{Cell, row_by_roots}
@@ -31,7 +31,7 @@ use Rattle.count_laws.specs.Agreement.{Person}
 use Rattle.count_laws.specs.Facts.{KeepsCounts}
 use Rattle.count_laws.specs.Known.{Names, ReachesThrough, StartsWalks, RowsAreIn, row_at}
 use Rattle.count_laws.specs.KnownByRoots.{AreRootLetters, IsRootsAt, stands}
-use Rattle.count_laws.specs.Named.{IsInRowsOf, ReachesNothingFreed, RowsNameNothingFreed, brought, brought_by, has_row, in_brought, in_row}
+use Rattle.count_laws.specs.Named.{IsInRowsOf, ReachesNothingFreed, RowsNameNothingFreed, brought, has_row, in_brought, in_row}
 
 -- ---- entries of a list of rows
 
