@@ -52,9 +52,13 @@ pub fn prepare<W: RowWords>(
     ensures words { SameWords W.known W.places W.beside words.old words.new }
     ensures hold { OnOk result (HoldsTold (W.known words.new) (Told (told_first e.now m.new.parts))) }
 {
+    // Most events are goes: by itself, a go's answer costs a few instructions less.
+    if let Event::Go(actor) = *e {
+        return prepare_go(alloc, m, known, actor, words);
+    }
     match *e {
+        Event::Go(_) => unreachable!(),
         Event::Take(actor) => prepare_take(m, actor),
-        Event::Go(actor) => prepare_go(alloc, m, known, actor, words),
         Event::Collect(actor) => prepare_collect(alloc, m, known, actor, words),
         Event::Leave(actor) => prepare_leave(alloc, m, actor),
         Event::Block(actor) => prepare_block(alloc, m, actor),
