@@ -15,6 +15,8 @@ mod programs;
 #[cfg(test)]
 mod report_tests;
 #[cfg(test)]
+mod rows_tests;
+#[cfg(test)]
 mod tests;
 #[cfg(test)]
 mod why_tests;

@@ -94,3 +94,7 @@ pub(crate) const LOOSE: &str = "kind Main 0\non start 0\npin\nint r0 1\nrow r1 r
 /// An actor makes an object that names another, and prints before its turn ends.
 pub(crate) const NESTED: &str =
     "kind Main 0\non start 0\nint r0 1\nrow r1 r0\nrow r2 r1\nprint r0\nend\n";
+
+/// An actor makes an object, drops it, and makes another one before it collects.
+pub(crate) const MADE_AGAIN: &str =
+    "kind Main 0\non start 0\nint r0 1\nrow r1 r0\nself r2\nsend r2 again\nend\non again 0\nrow r1 r0\nend\n";

@@ -315,6 +315,7 @@ fn has_book(alloc: Global, input: &str, book: &str) -> Result<bool, NoMemory> {
         book: false,
         weight: 256,
         trace: Trace::Deep,
+        rows: None,
     };
     let mut source = source(alloc, input.as_bytes(), SURE)?;
     let mut sink = sink(alloc, SURE)?;

@@ -50,6 +50,14 @@ const RUNS: &[(&str, &[&str])] = &[
         ],
     ),
     ("makes_many.txt", &["run", "--workers", "1"]),
+    (
+        "makes_again.txt",
+        &["run", "--workers", "1", "--rows", "1", "--book"],
+    ),
+    (
+        "makes_again.txt",
+        &["run", "--workers", "1", "--rows", "2", "--book"],
+    ),
     ("cycle_and_its_book.txt", &["audit"]),
     ("cycle_and_no_run.txt", &["audit"]),
     ("hold_each_other.txt", &["why"]),

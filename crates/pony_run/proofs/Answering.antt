@@ -2,6 +2,7 @@
 use Rattle.std.proofs.Common.{◌≡◌, ◌⊎◌, inl, inr, ℕ, List, [], Some, None, refl, sym, subst, arith}
 use Rattle.std.specs.declared.option.Option.{Option}
 use Rattle.std.proofs.KnownBytes.{Appends-nil, Consumes-nil}
+use Rattle.block_table.specs.Blocks.{Blocks}
 use Rattle.run_book.specs.Books.{BookValue, options_of_book}
 use Rattle.run_book.specs.Reading.{IsBookText}
 use Rattle.machine_rules.specs.Run.{IsRun}
@@ -20,6 +21,7 @@ use Rattle.outside_world.specs.Pieces.{TakesAll, TakesPart}
 use Rattle.job_input.specs.Inputs.{HasText, IsInput, Reads, ReadsFor, TakesInput}
 use Rattle.pony_run.specs.Headline.{Answers, Begins, BeginsAudit, EndsWith, EveryRun, IsAudited, IsCut, IsReport, IsReportOf, MayRead, Refuses, Writes}
 use Rattle.job_input.specs.Begins.{BeginsRun, GivesBegun, HasBehind, InputStops, IsBegun, IsBookStop, IsReadStop, IsRunnable, IsStop, IsTextStop}
+use Rattle.pony_run.proofs.AtHand.{as_at_hand}
 use Rattle.pony_run.specs.Inner.{AuditAnswers, IsTold, IsWritten, RunAnswers, StopsWith, WritesAudit, WritesReport}
 use Rattle.job_input.specs.Streams.{CountsNoFault, IsUntouched, Sides, most_bytes}
 use Rattle.job_input.specs.declared.beginning.Begun.{Begun}
@@ -171,25 +173,34 @@ run_written end order book s sink text answer report (inl h) = subst (WritesRepo
 run_written end order book s sink text answer report (inr h) = subst (WritesReport end order book s sink) (sym h.0) (WritesReport.cut text report h.1)
 
 module _ (order : Order) (program : Program) (sink : Sides) (book : BookValue) (run : EveryRun order program book) where
+  -- it ended so, in this state with these blocks
+  report_of : (end : Status) (s : State) (blocks : Blocks) (text : List ℕ) → run.state ≡ s → run.blocks ≡ blocks → EndsWith end s blocks book.entries order.budget → IsReport end order book s text
+      → IsReportOf end run text
+  report_of end s blocks text same its ends report = record {
+    ends = subst (λ (x : State × Blocks). EndsWith end x.0 x.1 book.entries order.budget) (λ i. (sym same i, sym its i)) ends;
+    report = subst (λ x. IsReport end order book x text) (sym same) report;
+  }
+
   -- the report of a run that ended so
-  pub report_answers : (end answer : Status) (s : State) → run.state ≡ s → EndsWith end s book.entries order.budget
+  pub report_answers : (end answer : Status) (s : State) (blocks : Blocks) → run.state ≡ s → run.blocks ≡ blocks → EndsWith end s blocks book.entries order.budget
       → WritesReport end order book s sink answer → RunAnswers order program sink book answer
-  report_answers end answer s same ends (WritesReport.whole text report written) =
-      RunAnswers.ended run end text (record { ends = subst (λ x. EndsWith end x book.entries order.budget) (sym same) ends; report = subst (λ x. IsReport end order book x text) (sym same) report }) written
-  report_answers end answer s same ends (WritesReport.cut text report written) =
-      RunAnswers.cut run end text (record { ends = subst (λ x. EndsWith end x book.entries order.budget) (sym same) ends; report = subst (λ x. IsReport end order book x text) (sym same) report }) written
-  report_answers end answer s same ends (WritesReport.starved written) = RunAnswers.starved run written
+  report_answers end answer s blocks same its ends (WritesReport.whole text report written) =
+      RunAnswers.ended run end text (report_of end s blocks text same its ends report) written
+  report_answers end answer s blocks same its ends (WritesReport.cut text report written) =
+      RunAnswers.cut run end text (report_of end s blocks text same its ends report) written
+  report_answers end answer s blocks same its ends (WritesReport.starved written) = RunAnswers.starved run written
 
 module _ (reading : Option Order) (source sink : Sides) (book : BookValue) (order : Order) (program : Program) (begins : Begins reading source order program) where
   whole : (end : Status) (run : EveryRun order program book) (text : List ℕ) → IsReportOf end run text → Writes sink text → Answers reading source sink book end
-  whole status.Quiet run text report written = Answers.quiet order program begins run text report written
-  whole status.Budget run text report written = Answers.budget order program begins run text report written
-  whole (status.ActorsFull a) run text report written = Answers.actors_full order program begins run a text report written
+  whole status.Quiet run text report written = Answers.quiet order program begins run text report (as_at_hand order program book begins.spells.good run text status.Quiet report) written
+  whole status.Budget run text report written = Answers.budget order program begins run text report (as_at_hand order program book begins.spells.good run text status.Budget report) written
+  whole (status.ActorsFull a) run text report written = Answers.actors_full order program begins run a text report (as_at_hand order program book begins.spells.good run text (status.ActorsFull a) report) written
+  whole (status.RowsFull a) run text report written = Answers.rows_full order program begins run a text report (as_at_hand order program book begins.spells.good run text (status.RowsFull a) report) written
   whole end run text report written = absurd report.ends
 
   pub run_answers : (answer : Status) → RunAnswers order program sink book answer → Answers reading source sink book answer
   run_answers answer (RunAnswers.ended run end text report written) = whole end run text report written
-  run_answers answer (RunAnswers.cut run end text report written) = Answers.write_fault order program begins run end text report written
+  run_answers answer (RunAnswers.cut run end text report written) = Answers.write_fault order program begins run end text report (as_at_hand order program book begins.spells.good run text end report) written
   run_answers answer (RunAnswers.starved run written) = Answers.starved_in_run order program begins run written
 
 -- the job's program is that of an order which the words give

@@ -125,7 +125,7 @@ module _ (order : Order) (source sink : Sides) (book : BookValue) (answer : Stat
         when_it_ends runs well able kept (Seen.audit is p of bytes behind audit) = absurd (no_run order.job runs is)
 
         of_end : IsEnd answer → Seen order source sink book answer
-            → (first_broken program ≡ None) × (run : EveryRun order program book) × EndsWith answer run.state book.entries order.budget
+            → (first_broken program ≡ None) × (run : EveryRun order program book) × EndsWith answer run.state run.blocks book.entries order.budget
         of_end end (Seen.no_memory e unfailed) = absurd (subst IsEnd e end)
         of_end end (Seen.failed takes fails e) = absurd (subst IsEnd e end)
         of_end end (Seen.long read h is e) = absurd (subst IsEnd e end)
@@ -134,7 +134,7 @@ module _ (order : Order) (source sink : Sides) (book : BookValue) (answer : Stat
         of_end end (Seen.cut p of runs fails e) = absurd (subst IsEnd e end)
         of_end end (Seen.audit_cut is p of bytes behind written run fails e) = absurd (subst IsEnd e end)
         of_end end (Seen.ended p of ended) =
-            subst (λ (q : Program). (first_broken q ≡ None) × (run : EveryRun order q book) × EndsWith answer run.state book.entries order.budget)
+            subst (λ (q : Program). (first_broken q ≡ None) × (run : EveryRun order q book) × EndsWith answer run.state run.blocks book.entries order.budget)
             (is_program of.input of.text of.read of.has p of.spells) (of.kept, ended.run, ended.ends)
         of_end end (Seen.audit is p of bytes behind audit) = absurd (ends_no_audit answer end (of_audit p bytes sink book answer audit))
 
@@ -325,10 +325,11 @@ of_no_order source sink book answer (Answers.bad_book o program bytes begins lin
 of_no_order source sink book answer (Answers.not_a_run o program bytes begins of place cause refuted line) = let words = begins.words in absurd (cc)
 of_no_order source sink book answer (Answers.audited o program bytes begins of text audited written) = let words = begins.words in absurd (cc)
 of_no_order source sink book answer (Answers.audit_cut o program bytes begins of text audited is_cut) = let words = begins.words in absurd (cc)
-of_no_order source sink book answer (Answers.quiet o program begins run text report written) = let words = begins.words in absurd (cc)
-of_no_order source sink book answer (Answers.budget o program begins run text report written) = let words = begins.words in absurd (cc)
-of_no_order source sink book answer (Answers.actors_full o program begins run a text report written) = let words = begins.words in absurd (cc)
-of_no_order source sink book answer (Answers.write_fault o program begins run end text report is_cut) = let words = begins.words in absurd (cc)
+of_no_order source sink book answer (Answers.quiet o program begins run text report hand written) = let words = begins.words in absurd (cc)
+of_no_order source sink book answer (Answers.budget o program begins run text report hand written) = let words = begins.words in absurd (cc)
+of_no_order source sink book answer (Answers.actors_full o program begins run a text report hand written) = let words = begins.words in absurd (cc)
+of_no_order source sink book answer (Answers.rows_full o program begins run a text report hand written) = let words = begins.words in absurd (cc)
+of_no_order source sink book answer (Answers.write_fault o program begins run end text report hand is_cut) = let words = begins.words in absurd (cc)
 of_no_order source sink book answer (Answers.starved reads none written) = inr refl
 of_no_order source sink book answer (Answers.starved_in_run o program begins run written) = inr refl
 of_no_order source sink book answer (Answers.starved_in_audit o program bytes begins of written) = inr refl

@@ -70,6 +70,7 @@ pub ends_no_audit : (answer : Status) → IsEnd answer → IsOfAudit answer → 
 ends_no_audit status.Quiet end audits = audits
 ends_no_audit status.Budget end audits = audits
 ends_no_audit (status.ActorsFull a) end audits = audits
+ends_no_audit (status.RowsFull a) end audits = audits
 ends_no_audit answer end audits = end
 
 -- an audit runs no program

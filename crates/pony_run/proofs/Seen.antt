@@ -32,7 +32,7 @@ pub record HasEnded (order : Order) (sink : Sides) (book : BookValue) (program :
   pub runs : RunsProgram order.job
   pub run : EveryRun order program book
   pub is_end : IsEnd answer
-  pub ends : EndsWith answer run.state book.entries order.budget
+  pub ends : EndsWith answer run.state run.blocks book.entries order.budget
   pub well : CountsNoFault sink
 
 -- what an audit of these bytes found
@@ -97,7 +97,7 @@ module _ (order : Order) (source sink : Sides) (book : BookValue) where
       seen_of o status.WriteFault b.words (Seen.audit_cut b.audits program (has_audited o program bytes b) bytes b.behind of run fails refl)
 
   see_end : (o : Order) (program : Program) (answer : Status) (b : Begins (Some order) source o program) (run : EveryRun o program book) → IsEnd answer
-      → EndsWith answer run.state book.entries o.budget → CountsNoFault sink → Seen order source sink book answer
+      → EndsWith answer run.state run.blocks book.entries o.budget → CountsNoFault sink → Seen order source sink book answer
   see_end o program answer b run is_end ends well =
       seen_of o answer b.words (Seen.ended program (has_program o program b) (record { runs = b.runs; run = run; is_end = is_end; ends = ends; well = well }))
 
@@ -113,10 +113,11 @@ module _ (order : Order) (source sink : Sides) (book : BookValue) where
   see answer (Answers.audited o program bytes begins of text right written) =
       see_audit o program bytes answer begins (AuditSeen.audited of (right.state, right.run) written.well refl)
   see answer (Answers.audit_cut o program bytes begins of text right is_cut) = see_audit_cut o program bytes begins of (right.state, right.run) is_cut.failed
-  see answer (Answers.quiet o program begins run text report written) = see_end o program answer begins run tt report.ends written.well
-  see answer (Answers.budget o program begins run text report written) = see_end o program answer begins run tt report.ends written.well
-  see answer (Answers.actors_full o program begins run a text report written) = see_end o program answer begins run tt report.ends written.well
-  see answer (Answers.write_fault o program begins run end text report is_cut) =
+  see answer (Answers.quiet o program begins run text report hand written) = see_end o program answer begins run tt report.ends written.well
+  see answer (Answers.budget o program begins run text report hand written) = see_end o program answer begins run tt report.ends written.well
+  see answer (Answers.actors_full o program begins run a text report hand written) = see_end o program answer begins run tt report.ends written.well
+  see answer (Answers.rows_full o program begins run a text report hand written) = see_end o program answer begins run tt report.ends written.well
+  see answer (Answers.write_fault o program begins run end text report hand is_cut) =
       seen_of o answer begins.words (Seen.cut program (has_program o program begins) begins.runs is_cut.failed refl)
   see answer (Answers.starved reads none written) = Seen.no_memory refl written.well
   see answer (Answers.starved_in_run o program begins run written) = Seen.no_memory refl written.well

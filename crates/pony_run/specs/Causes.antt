@@ -65,7 +65,7 @@ pub record ComesOnly (order : Order) (source sink : Sides) (answer : Status) (bo
   pub end : (input text : List ℕ) (program : Program) → IsGiven order.job source input
       → HasText order.job input text → Spells text program → IsEnd answer →
       (first_broken program ≡ None)
-      × (run : EveryRun order program book) × EndsWith answer run.state book.entries order.budget
+      × (run : EveryRun order program book) × EndsWith answer run.state run.blocks book.entries order.budget
   pub runs : IsEnd answer → RunsProgram order.job
   pub audits : IsOfAudit answer → order.job ≡ Audit
   -- a run's end comes only where no read and no write failed

@@ -5,18 +5,20 @@
 -- and its audit, and what is written. What every run promises, however it ends, is `EveryRun`; it is a
 -- premise of each answer behind which a run began. What a job takes as its input, and what is a
 -- program's text there (`IsInput`, `HasText`, `Spells`, `IsFaulty`, `IsNoBook`), stands in `job_input`.
-use Rattle.std.specs.Prelude.{◌≡◌, ◌↔◌, ◌⊎◌, ℕ, ◌<◌, ◌≤◌, Bool, true, false, not, List, [], ◌++◌, Contains, count_by, length, All, Some, None}
+use Rattle.std.specs.Prelude.{◌≡◌, ◌↔◌, ◌⊎◌, ℕ, ◌+◌, ◌<◌, ◌≤◌, Bool, true, false, not, List, [], ◌++◌, Contains, count_by, length, All, Some, None}
 use Rattle.std.specs.declared.option.Option.{Option}
 use Rattle.std.specs.Io.KnownBytes.{Appends}
 use Rattle.std.specs.List.Sorted.{IsStrictlySortedBy}
 use Rattle.orca_names.specs.Names.{thing_cmp}
 use Rattle.orca_names.specs.declared.names.Thing.{Thing}
 use Rattle.orca_names.specs.declared.names.Thing.TheVariants.{Actor, Obj}
+use Rattle.orca_names.specs.declared.limits.TheConstants.{BODY_LIMIT}
 use Rattle.orca_names.specs.declared.reason.Reason.{Reason}
 use Rattle.orca_names.specs.declared.tally.Sums.{Sums}
 use Rattle.orca_names.specs.declared.trace.Trace.TheVariants.{Deep, Roots}
 use Rattle.event_rule.specs.Runs.{ActorsFull, Budget, EndsAs, IsQuiet, LeadsInOrder, Quiet}
 use Rattle.event_rule.specs.declared.event.Event.{Event}
+use Rattle.block_table.specs.Blocks.{Blocks}
 use Rattle.run_book.specs.Books.{BookValue, options_of_book}
 use Rattle.run_book.specs.Reading.{IsBookText}
 use Rattle.run_book.specs.Splits.{IsSplit}
@@ -41,6 +43,8 @@ use Rattle.machine_rules.specs.Run.{IsPlainBeside, IsRun}
 use Rattle.machine_rules.specs.State.{State, first_state}
 use Rattle.count_laws.specs.TracedByRoots.{AreTracedByRoots}
 use Rattle.machine_laws.specs.Laws.{IsNeverTooEarly, IsLeftExactly}
+use Rattle.row_laws.specs.Blocks.{IsRowRun}
+use Rattle.quiet_pass.specs.Ends.{IsRowsFullAt}
 use Rattle.book_audit.specs.Verdicts.{IsRefuted}
 use Rattle.count_ledger.specs.Tally.{IsTally}
 use Rattle.why_path.specs.Checks.{HoldsUp, is_loose}
@@ -94,6 +98,13 @@ alone order = record order { workers = 1 }
 abbrev pub options_in : Order → Options
 options_in order = record { weight = order.weight; trace = order.trace }
 
+-- the run of this book had enough blocks for the rows of each entry, and these are the blocks then; where
+-- rows lie at hand there are none
+abbrev pub RunsInBlocks : Option ℕ → Program → Options → List Event → State → Blocks → Type 0
+RunsInBlocks None program options book s blocks = blocks ≡ []
+RunsInBlocks (Some count) program options book s blocks =
+    IsRowRun program options count book s blocks
+
 -- after this book the machine that frees nothing, which makes the same choices, printed the same;
 -- nothing that was freed is reachable there; and counts balance
 abbrev pub IsSafeAfter : Program → Options → List Event → Type 0
@@ -122,6 +133,9 @@ pub record EveryRun (order : Order) (program : Program) (book : BookValue) : Typ
   -- it is a run of the program, and leads to this state
   pub state : State
   pub run : IsRun program (options_in order) book.entries state
+  -- where the order has rows in blocks, there were enough of them, and these are the blocks then
+  pub blocks : Blocks
+  pub rows : RunsInBlocks order.rows program (options_in order) book.entries state blocks
   -- with one worker each entry is the first event that is enabled in its turn
   pub in_order : order.workers ≡ 1
       → LeadsInOrder next (first_state program (options_in order)) book.entries state
@@ -135,13 +149,16 @@ pub record EveryRun (order : Order) (program : Program) (book : BookValue) : Typ
   pub exact : IsQuiet next state → IsExactAfter program (options_in order) book.entries state
 
 -- this is how the run ends: no event is enabled; or else its book is as long as the budget; or else its
--- next event, in the order of one worker, would make one actor more than may be made
-abbrev pub EndsWith : Status → State → List Event → ℕ → Type 0
-EndsWith status.Quiet s book budget = EndsAs next Quiet s (length book) budget
-EndsWith status.Budget s book budget = EndsAs next Budget s (length book) budget
-EndsWith (status.ActorsFull actor) s book budget =
+-- next event, in the order of one worker, would make one actor more than may be made, or more rows than
+-- there are free blocks
+abbrev pub EndsWith : Status → State → Blocks → List Event → ℕ → Type 0
+EndsWith status.Quiet s blocks book budget = EndsAs next Quiet s (length book) budget
+EndsWith status.Budget s blocks book budget = EndsAs next Budget s (length book) budget
+EndsWith (status.ActorsFull actor) s blocks book budget =
     EndsAs next (ActorsFull actor) s (length book) budget
-EndsWith other s book budget = ⊥
+EndsWith (status.RowsFull actor) s blocks book budget =
+    IsRowsFullAt actor s blocks (length book) budget
+EndsWith other s blocks book budget = ⊥
 
 -- ---- the report
 
@@ -244,7 +261,7 @@ pub record Refuses (refusal : Status) (sink : Sides) (book : BookValue) : Type 0
 -- the run ended so, and this is its report
 pub record IsReportOf {order : Order} {program : Program} {book : BookValue} (end : Status)
     (run : EveryRun order program book) (text : List ℕ) : Type 0 where
-  pub ends : EndsWith end run.state book.entries order.budget
+  pub ends : EndsWith end run.state run.blocks book.entries order.budget
   pub report : IsReport end order book run.state text
 
 -- the book is a run of the program, and this is the report of its audit
@@ -252,6 +269,20 @@ pub record IsAudited (program : Program) (book : BookValue) (text : List ℕ) : 
   pub state : State
   pub run : IsRun program (options_of_book book) book.entries state
   pub report : IsAuditReport book state text
+
+-- ---- where rows lie
+
+-- the order, with rows at hand
+abbrev pub at_hand : Order → Order
+at_hand order = record order { rows = None }
+
+-- at the end for rows there were fewer blocks than 1,024 more than the objects that were made; at each
+-- other end the text is the report of the same book's run with rows at hand, too
+abbrev pub IsAsAtHand : Status → Order → Program → BookValue → State → List ℕ → Type 0
+IsAsAtHand (status.RowsFull actor) order program book s text =
+    (count : ℕ) → order.rows ≡ Some count → count < s.objects + BODY_LIMIT
+IsAsAtHand end order program book s text =
+    (run : EveryRun (at_hand order) program book) × IsReportOf end run text
 
 -- ---- the answers
 
@@ -310,19 +341,29 @@ pub data Answers (reading : Option Order) (source sink : Sides) (book : BookValu
   -- the run ended where no event is enabled, and its report was written
   quiet : (order : Order) (program : Program) → Begins reading source order program
       → (run : EveryRun order program book) (text : List ℕ) → IsReportOf status.Quiet run text
+      → IsAsAtHand status.Quiet order program book run.state text
       → Writes sink text → Answers reading source sink book status.Quiet
   -- the run ended by its budget, and its report was written
   budget : (order : Order) (program : Program) → Begins reading source order program
       → (run : EveryRun order program book) (text : List ℕ) → IsReportOf status.Budget run text
+      → IsAsAtHand status.Budget order program book run.state text
       → Writes sink text → Answers reading source sink book status.Budget
   -- the run ended where all actors are made, and its report was written
   actors_full : (order : Order) (program : Program) → Begins reading source order program
       → (run : EveryRun order program book) (actor : ℕ) (text : List ℕ)
       → IsReportOf (status.ActorsFull actor) run text
+      → IsAsAtHand (status.ActorsFull actor) order program book run.state text
       → Writes sink text → Answers reading source sink book (status.ActorsFull actor)
+  -- the run ended where blocks are lacked, and its report was written
+  rows_full : (order : Order) (program : Program) → Begins reading source order program
+      → (run : EveryRun order program book) (actor : ℕ) (text : List ℕ)
+      → IsReportOf (status.RowsFull actor) run text
+      → IsAsAtHand (status.RowsFull actor) order program book run.state text
+      → Writes sink text → Answers reading source sink book (status.RowsFull actor)
   -- the run ended in one of these ways, and the sink failed while its report was written
   write_fault : (order : Order) (program : Program) → Begins reading source order program
       → (run : EveryRun order program book) (end : Status) (text : List ℕ) → IsReportOf end run text
+      → IsAsAtHand end order program book run.state text
       → IsCut sink text → Answers reading source sink book status.WriteFault
   -- memory was refused before a run began or a book was read, the book is empty, and nothing was
   -- written. Memory may be refused while a book is read, so an answer alone can't tell that none was;

@@ -15,7 +15,7 @@ use Rattle.orca_core.specs.Machine.{Machine, NoneIsAway}
 use Rattle.quiet_pass.specs.declared.ending.End.{End}
 use Rattle.quiet_pass.specs.declared.ending.End.TheVariants as ends
 use Rattle.job_input.specs.Streams.{Sides}
-use Rattle.pony_run.specs.Headline.{EveryRun, IsAudited, IsCut, IsReport, IsReportOf, Writes, WritesLine, options_in}
+use Rattle.pony_run.specs.Headline.{EveryRun, IsAudited, IsCut, IsReport, IsReportOf, RunsInBlocks, Writes, WritesLine, options_in}
 
 -- ---- no run begins
 
@@ -38,13 +38,13 @@ abbrev pub IsAnswerOf : End → Option Status → Type 0
 IsAnswerOf ends.Quiet answer = answer ≡ Some status.Quiet
 IsAnswerOf ends.Budget answer = answer ≡ Some status.Budget
 IsAnswerOf (ends.Full actor) answer = answer ≡ Some (status.ActorsFull actor)
-IsAnswerOf (ends.NoRows actor) answer = ⊥
+IsAnswerOf (ends.NoRows actor) answer = answer ≡ Some (status.RowsFull actor)
 IsAnswerOf ends.NoMemory answer = answer ≡ None
 
 -- ---- a run begins
 
 -- the book is a run of the program as the order wants it, and led to this machine, which has all its
--- cells and no blocks
+-- cells, and the blocks of that run
 pub record IsUnderWay (order : Order) (program : Program) (m : Machine) (book : BookValue)
     : Type 0 where
   pub program_is : m.state.program ≡ program
@@ -54,7 +54,7 @@ pub record IsUnderWay (order : Order) (program : Program) (m : Machine) (book : 
   pub trace : book.trace ≡ order.trace
   pub within : length book.entries ≤ order.budget
   pub home : NoneIsAway m
-  pub none : m.blocks ≡ []
+  pub rows : RunsInBlocks order.rows program (options_in order) book.entries m.state m.blocks
   pub in_order : order.workers ≡ 1
       → LeadsInOrder next (first_state program (options_in order)) book.entries m.state
 

@@ -94,7 +94,7 @@ fn whys(
     book: &Book,
 ) -> Result<Vec<u8>, NoMemory>
     requires home { NoneIsAway orca.now }
-    requires none { orca.now.blocks ≡ [] }
+    requires none { job ≡ Job.Why → orca.now.blocks ≡ [] }
     requires program { orca.now.state.program ≡ code.now }
     requires options { orca.now.state.options ≡ options_of book.now.weight book.now.trace }
     requires run { IsRunOf orca.now book.now.entries }
@@ -127,7 +127,7 @@ pub(crate) fn report_of_run(
 ) -> Result<Vec<u8>, NoMemory>
     requires end { IsEnd end.now }
     requires home { NoneIsAway orca.now }
-    requires none { orca.now.blocks ≡ [] }
+    requires none { order.now.job ≡ Job.Why → orca.now.blocks ≡ [] }
     requires program { orca.now.state.program ≡ code.now }
     requires options { orca.now.state.options ≡ options_of book.now.weight book.now.trace }
     requires run { IsRunOf orca.now book.now.entries }

@@ -1,6 +1,11 @@
 // A checked program is run, by one worker or by several, and its report is written.
 
-ghost use Rattle.std.specs.Prelude.{◌≡◌, ◌≢◌, ℕ, []};
+ghost use Rattle.std.specs.Prelude.{◌≡◌, ◌≢◌, ◌≤◌, [], IfOk, None, unwrap_or};
+ghost use Rattle.block_table.specs.Blocks.{free_blocks};
+ghost use Rattle.row_blocks.specs.Blocks.{MayPutEach};
+ghost use Rattle.row_store.specs.Vectors.{places_in};
+ghost use Rattle.word_line.specs.declared.order.TheConstants.{MOST_ROWS};
+ghost use Rattle.orca_core.specs.Machine.{Stand};
 ghost use Rattle.report_text.specs.Ends.{IsEnd};
 ghost use Rattle.word_line.specs.Orders.{IsInRange};
 ghost use Rattle.pony_run.specs.Inner.{IsAnswerOf, IsUnderWay, RunAnswers, WritesReport};
@@ -15,7 +20,7 @@ use orca_names::NoMemory;
 use outside_world::{Gate, Sink};
 use quiet_pass::{End, finish};
 use report_text::Status;
-use row_store::NoBlocks;
+use row_store::{BLOCK_WORDS, NoBlocks, RowWords};
 use run_book::Book;
 use std::alloc::Global;
 use std::sync::Wait;
@@ -55,41 +60,37 @@ fn write_report<K: Sink>(
 
 /// How a call ends whose run ended so, if its report is written; want of memory has none.
 fn answer_of(end: End) -> Option<Status>
-    requires { (actor : ℕ) → end ≢ End.NoRows actor }
     ensures { IsAnswerOf end result }
 {
     match end {
         End::Quiet => Some(Status::Quiet),
         End::Budget => Some(Status::Budget),
         End::Full { actor } => Some(Status::ActorsFull { actor }),
+        End::NoRows { actor } => Some(Status::RowsFull { actor }),
         End::NoMemory => None,
-        End::NoRows { .. } => unreachable!(),
     }
 }
 
-/// Takes a run to its end by one worker, and writes its report.
-fn end_run<K: Sink>(
+/// Takes a run to its end by one worker, and writes its report. The words hold the rows that lie in blocks.
+fn end_run<W: RowWords, K: Sink>(
     alloc: Global,
     order: &Order,
     code: &Checked,
     orca: Orca<'_>,
     book: Book,
+    words: &mut W,
     sink: &mut K,
 ) -> Outcome
     requires range { IsInRange order.now }
     requires run { IsUnderWay order.now code.now orca book }
+    requires stand { Stand (W.known words.old) orca }
+    requires put { MayPutEach orca.blocks (W.places words.old) }
     ensures { RunAnswers order.now code.now
         (sides K.written K.faults sink.old sink.new) result.book result.status }
 {
     let mut orca = orca;
     let mut book = book;
-    let end = finish(
-        alloc,
-        &mut orca,
-        &mut book,
-        order.budget,
-        &mut NoBlocks::default(),
-    );
+    let end = finish(alloc, &mut orca, &mut book, order.budget, words);
     let Some(answer) = answer_of(end) else {
         return Outcome {
             status: Status::NoMemory,
@@ -117,6 +118,38 @@ fn starve(alloc: Global, order: &Order) -> Outcome
     }
 }
 
+/// Begins a run of a checked program, takes it to its end by one worker, and writes its report. The words
+/// are those of the blocks that the order asks for.
+#[tactic(auto, using(crate::proofs::Running::no_entry_yet))]
+fn run_over<W: RowWords, K: Sink>(
+    alloc: Global,
+    order: &Order,
+    code: &Checked,
+    words: &mut W,
+    sink: &mut K,
+) -> Outcome
+    requires range { IsInRange order.now }
+    requires put { MayPutEach (free_blocks (unwrap_or order.now.rows 0)) (W.places words.old) }
+    ensures { RunAnswers order.now code.now (sides K.written K.faults sink.old sink.new)
+        result.book result.status }
+{
+    match Orca::start(alloc, code, order.weight, order.rows, order.trace) {
+        Ok(orca) => {
+            let book = Book::new(alloc, order.weight, order.trace);
+            end_run(alloc, order, code, orca, book, words, sink)
+        }
+        Err(_) => starve(alloc, order),
+    }
+}
+
+/// As many words as so many blocks have.
+fn words_for(alloc: Global, blocks: u32) -> Result<Vec<u64>, NoMemory>
+    requires { blocks ≤ MOST_ROWS }
+    ensures { IfOk result (λ words. MayPutEach (free_blocks blocks) (places_in words.items)) }
+{
+    Ok(vec![in alloc; 0u64; BLOCK_WORDS as usize * blocks as usize]?)
+}
+
 /// Runs a checked program by one worker, and writes its report.
 pub(crate) fn run_by_one<K: Sink>(
     alloc: Global,
@@ -128,16 +161,17 @@ pub(crate) fn run_by_one<K: Sink>(
     ensures { RunAnswers order.now code.now (sides K.written K.faults sink.old sink.new)
         result.book result.status }
 {
-    match Orca::start(alloc, code, order.weight, None, order.trace) {
-        Ok(orca) => {
-            let book = Book::new(alloc, order.weight, order.trace);
-            end_run(alloc, order, code, orca, book, sink)
-        }
-        Err(_) => starve(alloc, order),
+    let Some(blocks) = order.rows else {
+        return run_over(alloc, order, code, &mut NoBlocks::default(), sink);
+    };
+    match words_for(alloc, blocks) {
+        Ok(mut words) => run_over(alloc, order, code, &mut words, sink),
+        Err(NoMemory) => starve(alloc, order),
     }
 }
 
 /// Runs a checked program by several workers, one of whom ends the run, and writes its report.
+#[tactic(auto, using(crate::proofs::Running::runs_without))]
 fn run_by_several<R: AllocGlobal + Threads + Wait + Sync, K: Sink, G: Gate + Sync>(
     rt: &R,
     order: &Order,
@@ -147,16 +181,21 @@ fn run_by_several<R: AllocGlobal + Threads + Wait + Sync, K: Sink, G: Gate + Syn
 ) -> Outcome
     requires range { IsInRange order.now }
     requires several { order.now.workers ≢ 1 }
+    requires rows { order.now.rows ≡ None }
     ensures { RunAnswers order.now code.now (sides K.written K.faults sink.old sink.new)
         result.book result.status }
 {
     match run_in(rt, order, code, gate) {
-        Ok((orca, book)) => end_run(rt.alloc(), order, code, orca, book, sink),
+        Ok((orca, book)) => {
+            let words = &mut NoBlocks::default();
+            end_run(rt.alloc(), order, code, orca, book, words, sink)
+        }
         Err(NoMemory) => starve(rt.alloc(), order),
     }
 }
 
-/// Runs a checked program by as many workers as the order says, and writes its report.
+/// Runs a checked program by as many workers as the order says, or by one where its rows are to lie in
+/// blocks, and writes its report.
 pub(crate) fn run_checked<R: AllocGlobal + Threads + Wait + Sync, K: Sink, G: Gate + Sync>(
     rt: &R,
     order: &Order,
@@ -168,7 +207,7 @@ pub(crate) fn run_checked<R: AllocGlobal + Threads + Wait + Sync, K: Sink, G: Ga
     ensures { RunAnswers order.now code.now (sides K.written K.faults sink.old sink.new)
         result.book result.status }
 {
-    if order.workers == 1 {
+    if order.workers == 1 || order.rows.is_some() {
         run_by_one(rt.alloc(), order, code, sink)
     } else {
         run_by_several(rt, order, code, sink, gate)

@@ -1,7 +1,7 @@
 -- How a call ends: its exit code, and the word for the end of a run.
 use Rattle.std.specs.Prelude.{ℕ, List, [], codes, ⊤}
 use Rattle.report_text.specs.declared.status.Status.{Status}
-use Rattle.report_text.specs.declared.status.Status.TheVariants.{Quiet, BadWords, BadText, BadProgram, Budget, ActorsFull, ReadFault, WriteFault, NoMemory, TooLong, Audited, BadBook, NotARun}
+use Rattle.report_text.specs.declared.status.Status.TheVariants.{Quiet, BadWords, BadText, BadProgram, Budget, ActorsFull, RowsFull, ReadFault, WriteFault, NoMemory, TooLong, Audited, BadBook, NotARun}
 
 -- the exit code
 abbrev pub code_of : Status → ℕ
@@ -11,6 +11,7 @@ code_of (BadText line kind) = 3
 code_of (BadProgram kind behaviour step rule) = 4
 code_of Budget = 5
 code_of (ActorsFull actor) = 6
+code_of (RowsFull actor) = 11
 code_of ReadFault = 7
 code_of WriteFault = 8
 code_of NoMemory = 9
@@ -24,6 +25,7 @@ abbrev pub IsEnd : Status → Type 0
 IsEnd Quiet = ⊤
 IsEnd Budget = ⊤
 IsEnd (ActorsFull actor) = ⊤
+IsEnd (RowsFull actor) = ⊤
 IsEnd other = ⊥
 
 -- the word for the end of a run
@@ -31,4 +33,5 @@ abbrev pub end_word : Status → List ℕ
 end_word Quiet = codes "quiet"
 end_word Budget = codes "budget"
 end_word (ActorsFull actor) = codes "actors"
+end_word (RowsFull actor) = codes "rows"
 end_word other = []

@@ -40,6 +40,7 @@ fn end_word(status: &Status) -> &'static str
         Status::Quiet => "quiet",
         Status::Budget => "budget",
         Status::ActorsFull { .. } => "actors",
+        Status::RowsFull { .. } => "rows",
         _ => unreachable!(),
     }
 }

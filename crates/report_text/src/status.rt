@@ -30,6 +30,10 @@ pub enum Status {
     ActorsFull {
         actor: ActorName,
     },
+    /// This actor would make more rows than there are free blocks.
+    RowsFull {
+        actor: ActorName,
+    },
     /// The source failed.
     ReadFault,
     /// The sink failed while the report was written.
@@ -66,6 +70,7 @@ impl Status {
             Status::BadProgram { .. } => 4,
             Status::Budget => 5,
             Status::ActorsFull { .. } => 6,
+            Status::RowsFull { .. } => 11,
             Status::ReadFault => 7,
             Status::WriteFault => 8,
             Status::NoMemory => 9,

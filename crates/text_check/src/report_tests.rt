@@ -150,6 +150,15 @@ fn prints_of_each_kind(rt: HostRuntime) -> Result<(), Fail> {
     reports(rt.alloc(), &full, &prints, ALL, None, text)
 }
 
+#[test]
+fn a_run_without_a_free_block(rt: HostRuntime) -> Result<(), Fail> {
+    let text = "--\nend rows\nactors made 1 left 0\nobjects made 0 left 0\n";
+    let full = Status::RowsFull { actor: MAIN };
+    reports(rt.alloc(), &full, &[], ONE, None, text)?;
+    let codes = [full.code(), Status::ActorsFull { actor: MAIN }.code()];
+    holds(codes == [11, 6], "the codes of ends for want of room")
+}
+
 /// Fails where a call that ends so has another code, or is refused with another line.
 fn refuses(alloc: Global, status: &Status, code: u8, line: &str) -> Result<(), Fail>
     requires { HasRefusal status.now }

@@ -53,16 +53,28 @@ counts: false, book: false, |why";
 
 // The weight and the tracing.
 const WEIGHTS: &str = "\
-weight: 256, trace: Deep |
-weight: 256, trace: Deep |run
-weight: 256, trace: Deep |load 3
-weight: 2, trace: Deep |run --weight 2
-weight: 65536, trace: Deep |run --weight=65536 --trace deep
-weight: 256, trace: Roots |run --trace roots
-weight: 7, trace: Roots |load 3 --trace=roots --weight 07
-weight: 256, trace: Deep |audit --
-weight: 256, trace: Deep |why --budget 4
-weight: 2, trace: Deep |why --weight 2 --budget=9";
+weight: 256, trace: Deep, |
+weight: 256, trace: Deep, |run
+weight: 256, trace: Deep, |load 3
+weight: 2, trace: Deep, |run --weight 2
+weight: 65536, trace: Deep, |run --weight=65536 --trace deep
+weight: 256, trace: Roots, |run --trace roots
+weight: 7, trace: Roots, |load 3 --trace=roots --weight 07
+weight: 256, trace: Deep, |audit --
+weight: 256, trace: Deep, |why --budget 4
+weight: 2, trace: Deep, |why --weight 2 --budget=9";
+
+// The tracing, and how many blocks rows lie in.
+const ROWS: &str = "\
+trace: Deep, rows: None |
+trace: Deep, rows: None |run
+trace: Roots, rows: None |run --trace roots
+trace: Deep, rows: Some(9) |run --rows 9
+trace: Deep, rows: Some(1) |run --rows=1 --trace deep
+trace: Deep, rows: Some(65536) |load 5 --rows 65536
+trace: Deep, rows: Some(7) |load --trace deep --rows +07 3
+trace: Deep, rows: None |audit
+trace: Deep, rows: None |why";
 
 const WITHOUT_A_READING: &str = "\
 BadWords|run --workers 0
@@ -112,16 +124,27 @@ BadWords|run --trace deeper
 BadWords|run --trace Deep
 BadWords|run --trace
 BadWords|run --trace deep --trace deep
-BadWords|run --rows";
+BadWords|run --rows
+BadWords|run --rows 0
+BadWords|run --rows 65537
+BadWords|run --rows many
+BadWords|run --rows 9 --rows 9
+BadWords|run --rows 9 --trace roots
+BadWords|run --trace roots --rows 9
+BadWords|load 5 --rows 0
+BadWords|load 5 --rows 65537
+BadWords|load 5 --trace roots --rows 9";
 
 const AUDITS_AND_REASONS: &str = "\
 BadWords|audit 3
 BadWords|audit --budget 4
 BadWords|audit --workers 1
+BadWords|audit --rows 9
 BadWords|why --workers 1
 BadWords|why --counts
 BadWords|why --book
 BadWords|why --trace deep
+BadWords|why --rows 9
 BadWords|why 3
 BadWords|why --budget 0
 BadWords|why --weight 1";
@@ -172,6 +195,11 @@ fn what_the_report_has(rt: HostRuntime) -> Result<(), Fail> {
 #[test]
 fn weights_and_tracing(rt: HostRuntime) -> Result<(), Fail> {
     are_read_so(rt.alloc(), WEIGHTS)
+}
+
+#[test]
+fn rows_in_blocks(rt: HostRuntime) -> Result<(), Fail> {
+    are_read_so(rt.alloc(), ROWS)
 }
 
 #[test]

@@ -24,6 +24,7 @@ run_rules =
     ∷ flag_rule (codes "book")
     ∷ option_rule (codes "weight")
     ∷ option_rule (codes "trace")
+    ∷ option_rule (codes "rows")
     ∷ []
 
 -- a command with the options of a run too

@@ -1,5 +1,5 @@
 -- The order that the words give.
-use Rattle.std.specs.Prelude.{ℕ, Bool, ◌≤◌, ⊤, false, List, Some, None, codes, if◌then◌else◌, option_and_then}
+use Rattle.std.specs.Prelude.{ℕ, Bool, ◌≡◌, ◌≤◌, ⊤, false, List, Some, None, IfSome, codes, if◌then◌else◌, option_and_then, option_map}
 use Rattle.std.specs.declared.option.Option.{Option}
 use Rattle.std.specs.Option.{option_map_or}
 use Rattle.std.specs.Str.{bytes_eq}
@@ -12,7 +12,7 @@ use Rattle.clap.specs.Words.{Row, Text, fault_of, first_of, subcommand_of}
 use Rattle.clap.specs.Walk.{is_empty}
 use Rattle.clap.specs.ValueTests.{accepts}
 use Rattle.clap.specs.declared.builder.value_parser.ValueParser.TheVariants as vp
-use Rattle.word_line.specs.declared.order.TheConstants.{LEAST_WEIGHT, MOST_WEIGHT}
+use Rattle.word_line.specs.declared.order.TheConstants.{LEAST_WEIGHT, MOST_ROWS, MOST_WEIGHT}
 use Rattle.word_line.specs.declared.order.Job.{Job}
 use Rattle.word_line.specs.declared.order.Job.TheVariants.{Audit, Load, Run, Why}
 use Rattle.word_line.specs.declared.order.Order.{Order}
@@ -50,19 +50,31 @@ trace_named text = if bytes_eq text (codes "deep") then Some Deep
 abbrev pub trace_in : List Row → Option Trace
 trace_in rows = option_map_or trace_named (first_of (codes "trace") rows) (Some Deep)
 
+-- how many blocks rows lie in, none where no text is given. Where one is, tracing must be deep
+abbrev pub rows_given : Trace → Option Text → Option (Option ℕ)
+rows_given trace None = Some None
+rows_given Deep (Some text) = option_map Some (number_in 1 MOST_ROWS text)
+rows_given Roots (Some text) = None
+
+-- how many blocks rows lie in, with this tracing
+abbrev pub rows_in : Trace → List Row → Option (Option ℕ)
+rows_in trace rows = rows_given trace (first_of (codes "rows") rows)
+
 -- the order, where each option's value is one that it may have
 abbrev pub order_from : Job → Bool → Bool → Option ℕ → Option ℕ → Option ℕ → Option Trace
-    → Option Order
-order_from job counts book (Some workers) (Some budget) (Some weight) (Some trace) = Some (record {
-  job = job;
-  workers = workers;
-  budget = budget;
-  counts = counts;
-  book = book;
-  weight = weight;
-  trace = trace;
-})
-order_from job counts book workers budget weight trace = None
+    → Option (Option ℕ) → Option Order
+order_from job counts book (Some workers) (Some budget) (Some weight) (Some trace) (Some rows) =
+    Some (record {
+      job = job;
+      workers = workers;
+      budget = budget;
+      counts = counts;
+      book = book;
+      weight = weight;
+      trace = trace;
+      rows = rows;
+    })
+order_from job counts book workers budget weight trace rows = None
 
 -- the order that the options give for the job
 abbrev pub order_with : Job → List Row → Option Order
@@ -70,6 +82,7 @@ order_with job rows =
     order_from job (flag_in (codes "counts") rows) (flag_in (codes "book") rows)
     (option_in 1 WORKERS_LIMIT 2 (codes "workers") rows)
     (budget_in rows) (weight_in rows) (trace_in rows)
+    (option_and_then (λ trace. rows_in trace rows) (trace_in rows))
 
 -- the order that the number and the options of `load` give
 abbrev pub load_with : List Row → Option Order
@@ -77,9 +90,11 @@ load_with rows =
     option_and_then (λ count. order_with (Load count) rows)
     (option_and_then (number_in 1 NODES_LIMIT) (first_of (codes "count") rows))
 
--- the order that the options of `why` give: one worker and deep tracing, and no counts and no book
+-- the order that the options of `why` give: one worker, deep tracing and rows at hand, no counts and
+-- no book
 abbrev pub why_with : List Row → Option Order
-why_with rows = order_from Why false false (Some 1) (budget_in rows) (weight_in rows) (Some Deep)
+why_with rows =
+    order_from Why false false (Some 1) (budget_in rows) (weight_in rows) (Some Deep) (Some None)
 
 -- what no words ask for
 abbrev pub default_order : Order
@@ -91,6 +106,7 @@ default_order = record {
   book = false;
   weight = 256;
   trace = Deep;
+  rows = None;
 }
 
 -- what `audit` asks for
@@ -125,3 +141,7 @@ pub record IsInRange (order : Order) : Type 0 where
   pub workers : (1 ≤ order.workers) × (order.workers ≤ WORKERS_LIMIT)
   pub budget : (1 ≤ order.budget) × (order.budget ≤ BOOK_LIMIT)
   pub weight : (LEAST_WEIGHT ≤ order.weight) × (order.weight ≤ MOST_WEIGHT)
+  pub rows : IfSome order.rows (λ count. (1 ≤ count) × (count ≤ MOST_ROWS))
+  -- rows lie in blocks only where tracing is deep, and no reasons are asked for
+  pub tracing : IfSome order.rows (λ count. order.trace ≡ Deep)
+  pub reasons : order.job ≡ Why → order.rows ≡ None

@@ -56,7 +56,8 @@ fn with_options<'a>(alloc: Global, command: Command<'a>) -> Result<Command<'a>, 
     let command = with_arg(command, flag(alloc, "counts"))?;
     let command = with_arg(command, flag(alloc, "book"))?;
     let command = with_arg(command, option(alloc, "weight"))?;
-    with_arg(command, option(alloc, "trace"))
+    let command = with_arg(command, option(alloc, "trace"))?;
+    with_arg(command, option(alloc, "rows"))
 }
 
 /// The subcommand `run` with its options.

@@ -5,5 +5,5 @@ mod command;
 mod order;
 mod reading;
 
-pub use order::{Job, LEAST_WEIGHT, MOST_WEIGHT, Order, WordErr};
+pub use order::{Job, LEAST_WEIGHT, MOST_ROWS, MOST_WEIGHT, Order, WordErr};
 pub use reading::read_words;

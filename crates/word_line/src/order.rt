@@ -11,6 +11,9 @@ pub const LEAST_WEIGHT: u32 = 2;
 /// The most that the weight of a run may be.
 pub const MOST_WEIGHT: u32 = 65_536;
 
+/// The most blocks that rows may lie in.
+pub const MOST_ROWS: u32 = 65_536;
+
 /// What is to be done.
 #[derive(Clone, Copy, Debug, PartialEq, Eq)]
 pub enum Job {
@@ -41,10 +44,14 @@ pub struct Order {
     pub weight: u32,
     /// How far letters are traced.
     pub trace: Trace,
+    /// With a number each row of an object lies in one of so many blocks of words, 1 to 65,536;
+    /// without one rows lie at hand.
+    pub rows: Option<u32>,
 }
 
 /// What no words ask for: a run of the program that the source gives, with two workers, at most
-/// 1,000,000 entries, weight 256 and deep tracing, and a report without counts and book.
+/// 1,000,000 entries, weight 256, deep tracing and rows at hand, and a report without counts and
+/// book.
 impl Default for Order {
     ghost use Rattle.word_line.specs.Orders.{default_order};
 
@@ -59,6 +66,7 @@ impl Default for Order {
             book: false,
             weight: 256,
             trace: Trace::Deep,
+            rows: None,
         }
     }
 }

@@ -1,12 +1,13 @@
 // The order that the words give.
 
-ghost use Rattle.std.specs.Prelude.{◌≡◌, ◌≤◌, IfOk, IfErr, IfSome, Some, None, map, option_map};
+ghost use Rattle.std.specs.Prelude.{◌≡◌, ◌≢◌, ◌≤◌, IfOk, IfErr, IfSome, Some, None, map, option_map};
 ghost use Rattle.clap.specs.Words.{first_of, found_of, rows_of, subcommand_rows_of};
-ghost use Rattle.word_line.specs.Orders.{IsInRange, IsJobInRange, audit_order, budget_in, flag_in, load_with, number_in, option_in, order_in, order_of, order_with, trace_in, weight_in, why_with};
+ghost use Rattle.orca_names.specs.declared.trace.Trace.TheVariants.{Deep};
+ghost use Rattle.word_line.specs.Orders.{IsInRange, IsJobInRange, audit_order, budget_in, flag_in, load_with, number_in, option_in, order_in, order_of, order_with, rows_in, trace_in, weight_in, why_with};
 ghost use Rattle.word_line.specs.declared.order.WordErr.TheVariants.{BadWords};
 
 use crate::command::command;
-use crate::order::{Job, LEAST_WEIGHT, MOST_WEIGHT, Order, WordErr};
+use crate::order::{Job, LEAST_WEIGHT, MOST_ROWS, MOST_WEIGHT, Order, WordErr};
 use clap::ArgMatches;
 use clap::error::ErrorKind;
 use load_maker::NODES_LIMIT;
@@ -98,9 +99,26 @@ fn trace_in(matches: &ArgMatches<'_>) -> Option<Trace>
     }
 }
 
-/// The order that the options give for the job.
+/// How many blocks rows lie in, none where it is not given; with it, tracing must be deep.
+fn rows_in(matches: &ArgMatches<'_>, trace: Trace) -> Option<Option<u32>>
+    ensures rows { result ≡ rows_in trace (rows_of (found_of matches.now)) }
+    ensures range { IfSome result (λ rows. IfSome rows (λ n. (1 ≤ n) × (n ≤ MOST_ROWS))) }
+    ensures tracing { IfSome result (λ rows. IfSome rows (λ _. trace ≡ Deep)) }
+{
+    match (text_of(matches, "rows"), trace) {
+        (None, _) => Some(None),
+        (Some(text), Trace::Deep) => {
+            let count = number_in(text, 1, u64::from(MOST_ROWS))?;
+            Some(Some(count as u32))
+        }
+        (Some(_), Trace::Roots) => None,
+    }
+}
+
+/// The order that the options give for the job, which asks for no reasons.
 fn order_with(matches: &ArgMatches<'_>, job: Job) -> Option<Order>
-    requires { IsJobInRange job }
+    requires range { IsJobInRange job }
+    requires other { job ≢ Job.Why }
     ensures order { result ≡ order_with job (rows_of (found_of matches.now)) }
     ensures range { IfSome result IsInRange }
 {
@@ -109,6 +127,7 @@ fn order_with(matches: &ArgMatches<'_>, job: Job) -> Option<Order>
     let budget = budget_in(matches)?;
     let weight = weight_in(matches)?;
     let trace = trace_in(matches)?;
+    let rows = rows_in(matches, trace)?;
     Some(Order {
         job,
         workers: workers as u32,
@@ -117,6 +136,7 @@ fn order_with(matches: &ArgMatches<'_>, job: Job) -> Option<Order>
         book: flag_in(matches, "book"),
         weight,
         trace,
+        rows,
     })
 }
 

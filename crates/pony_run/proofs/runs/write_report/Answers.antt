@@ -2,7 +2,11 @@ use Rattle.std.proofs.Common.{List, ℕ, subst, sym}
 use Rattle.pony_run.specs.Headline.{IsReport}
 use Rattle.pony_run.specs.Inner.{WritesReport}
 use Rattle.pony_run.proofs.Answering.{nothing_written, run_written}
+use Rattle.pony_run.proofs.Running.{no_blocks}
 use Rattle.pony_run.proofs.runs.write_report.Goals as goal
+
+pub report_of_run-requires-clause-none : goal.report_of_run-requires-clause-none
+report_of_run-requires-clause-none g c = λ why. no_blocks c.args.order.now.rows _ _ _ _ _ c.requires.run.rows (c.requires.range.reasons why)
 
 pub returns-in-Ok : goal.returns-in-Ok
 returns-in-Ok g c =

@@ -11,5 +11,6 @@ returns-clause-app c =
     let third = c.in_ok-command-3.ensures.app ∙ ap₂ with_rule second c.flag.ensures.rule in
     let fourth = c.in_ok-command-4.ensures.app ∙ ap₂ with_rule third c.flag-2.ensures.rule in
     let fifth = c.in_ok-command-5.ensures.app ∙ ap₂ with_rule fourth c.option-3.ensures.rule in
-    let sixth = ap₂ with_rule fifth c.option-4.ensures.rule in
-    IfOk-weaker c.with_arg-6.result _ _ (λ m last. last ∙ sixth) c.with_arg-6.ensures.app
+    let sixth = c.in_ok-command-6.ensures.app ∙ ap₂ with_rule fifth c.option-4.ensures.rule in
+    let seventh = ap₂ with_rule sixth c.option-5.ensures.rule in
+    IfOk-weaker c.with_arg-7.result _ _ (λ m last. last ∙ seventh) c.with_arg-7.ensures.app
